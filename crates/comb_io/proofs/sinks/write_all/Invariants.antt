@@ -1,0 +1,13 @@
+use Rattle.std.proofs.Common.{◌≡◌, ◌≤◌, [], length}
+use Rattle.comb_io.proofs.Parts.{AppendsBefore}
+use Rattle.comb_io.proofs.sinks.write_all.Given as goal
+
+abbrev pub invariant-loop-rest : goal.invariant-loop-rest
+invariant-loop-rest g l = record {
+  so_far : AppendsBefore (g.O.Sink.written l.fn.sink) (g.O.Sink.written l.sink) l.fn.piece l.rest;
+  later : g.O.Sink.faults l.fn.sink ≤ g.O.Sink.faults l.sink;
+  untouched : l.fn.piece ≡ [] → l.sink ≡ l.fn.sink;
+}
+
+abbrev pub decreases-loop-rest : goal.decreases-loop-rest
+decreases-loop-rest g l = length l.rest

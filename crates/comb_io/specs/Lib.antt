@@ -1,0 +1,6 @@
+pub mod Faults
+pub mod Files
+pub mod Parts
+pub mod Writes
+pub mod Sure
+pub mod Standard
