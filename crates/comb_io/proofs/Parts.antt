@@ -1,6 +1,7 @@
 -- Lemmas on pieces that are written part by part.
-use Rattle.std.proofs.Common.{◌≡◌, ℕ, ◌+◌, ◌-◌, ◌<◌, List, [], ◌∷◌, ◌++◌, Option, Result, Ok, Err, OnOk, OnErr, length, take, drop, refl, sym, ap, ◌∙◌, subst, arith, append_assoc, append-nil, length-append, length-drop, take-append-drop}
+use Rattle.std.proofs.Common.{◌≡◌, ℕ, ◌+◌, ◌-◌, ◌<◌, ◌≤◌, min, List, [], ◌∷◌, ◌++◌, Option, length, take, drop, refl, sym, ap, ◌∙◌, subst, arith, append_assoc, append-nil, length-append, length-drop, length-take, take-append-drop, take-take, drop-drop}
 use Rattle.std.proofs.Math.Seq.{take-append_seam, take-length}
+use Rattle.std.proofs.lemmas.List.{nil_from_length}
 use Rattle.std.proofs.KnownBytes.{Appends-nil, Appends-trans, Appends-kept}
 use Rattle.std.specs.Io.KnownBytes.{Appends, Keeps}
 use Rattle.comb_io.specs.Parts.{AppendsProperPrefix}
@@ -42,12 +43,21 @@ pub AppendsBefore-some : (a b : Option (List ℕ)) (piece rest : List ℕ) → A
 AppendsBefore-some a b piece rest so_far some none =
     let e : length rest + length so_far.front ≡ 0 = omega (arith, length-append so_far.front rest, ap length (so_far.whole ∙ none)) in omega arith
 
--- a fact that holds anyway holds at an error
-pub OnErr-of : {A E : Type 0} (r : Result A E) (P : Type 0) → P → OnErr r P
-OnErr-of (Ok x) P p = tt
-OnErr-of (Err e) P p = p
+-- ---- a read of the front of what is left, of at most `most` bytes
 
--- and at a success
-pub OnOk-of : {A E : Type 0} (r : Result A E) (P : Type 0) → P → OnOk r P
-OnOk-of (Ok x) P p = p
-OnOk-of (Err e) P p = tt
+pub front_read : (left buf : List ℕ) (most room m k : ℕ) → take k buf ≡ take k (take m left) → m ≡ min (length left) most → k ≡ min (length (take m left)) room → 0 < most
+    → (left ≡ take k buf ++ drop k left) × (k ≡ 0 → 0 < room → drop k left ≡ [])
+front_read left buf most room m k copied least count some =
+    let within : k ≤ m = omega (arith, length-take m left) in
+    let front : take k buf ≡ take k left = copied ∙ take-take k m left within in (
+      sym (take-append-drop k left) ∙ ap (λ l. l ++ drop k left) (sym front),
+      λ none room_left. nil_from_length (drop k left) (omega (arith, length-drop k left, length-take m left)),
+    )
+
+-- the same where the bytes before them were taken already
+pub rest_read : (all rest buf : List ℕ) (taken most room m k : ℕ) → rest ≡ drop taken all → take k buf ≡ take k (take m rest) → m ≡ min (length rest) most
+    → k ≡ min (length (take m rest)) room → 0 < most → (drop taken all ≡ take k buf ++ drop (taken + k) all) × (k ≡ 0 → 0 < room → drop (taken + k) all ≡ [])
+rest_read all rest buf taken most room m k e copied least count some =
+    let read = front_read rest buf most room m k copied least count some in
+    let after : drop k rest ≡ drop (taken + k) all = ap (drop k) e ∙ drop-drop k taken all in
+    (sym e ∙ read.0 ∙ ap (λ l. take k buf ++ l) after, λ none room_left. sym after ∙ read.1 none room_left)

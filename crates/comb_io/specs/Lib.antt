@@ -1,5 +1,6 @@
 pub mod Faults
 pub mod Files
+pub mod Memory
 pub mod Parts
 pub mod Writes
 pub mod Sure

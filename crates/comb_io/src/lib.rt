@@ -1,11 +1,13 @@
 //! Where bytes come from and go to: sources, sinks and shelves of files. Each counts its faults.
 #![tactic(auto)]
 
+mod memory;
 mod sinks;
 mod sources;
 mod standard;
 mod sure;
 
+pub use memory::{MemSink, MemSource};
 pub use sinks::{Sink, SinkFault, write_all};
 pub use sources::{Failed, Shelf, Source};
 pub use standard::{StdSink, StdSource};

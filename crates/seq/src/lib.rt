@@ -112,6 +112,18 @@ impl<T: Copy> Seq<T> {
         let items = Vec::from_slice(alloc, items)?;
         Ok(Seq { items })
     }
+
+    /// Puts these items at the end.
+    ///
+    /// # Errors
+    ///
+    /// Where memory is wanting the list is as before.
+    pub fn extend_from_slice(&mut self, items: &[T]) -> Result<(), AllocError>
+        ensures ok { OnOk result (self.new ≡ self.old ++ items.now) }
+        ensures err { OnErr result (self.new ≡ self.old) }
+    {
+        self.items.extend_from_slice(items)
+    }
 }
 
 impl<T: PartialEq> PartialEq for Seq<T> {
@@ -152,8 +164,9 @@ mod tests {
         bytes.insert(1, b'b')?;
         assert_eq!(rt; bytes.as_slice(), b"abc".as_slice());
         assert_eq!(rt; bytes.len(), 3);
+        bytes.extend_from_slice(b"de")?;
         assert_eq!(rt; *bytes.at(2), b'c');
-        assert!(rt; bytes == Seq::from_slice(rt.alloc(), b"abc")?);
+        assert!(rt; bytes == Seq::from_slice(rt.alloc(), b"abcde")?);
         assert!(rt; bytes != Seq::from_slice(rt.alloc(), b"ab")?);
         Ok(())
     }

@@ -86,7 +86,8 @@ impl Spec {
 
     /// The number of rules.
     pub fn rules(&self) -> u32
-        ensures { result ≡ length self.now }
+        ensures value { result ≡ length self.now }
+        ensures kept { IsTrue (is_spec self.now) }
     {
         self.rules.len() as u32
     }
@@ -105,7 +106,8 @@ impl Spec {
     pub fn right(&self, sym: u32) -> &Expr
         requires low { 1 ≤ sym }
         requires high { sym ≤ length self.now }
-        ensures { right_side self.now sym ≡ Some result.now }
+        ensures value { right_side self.now sym ≡ Some result.now }
+        ensures kept { IsTrue (is_spec self.now) }
     {
         let (_, right) = self.rules.get_index(sym as usize - 1).unwrap();
         right

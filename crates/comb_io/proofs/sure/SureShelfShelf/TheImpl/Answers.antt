@@ -1,5 +1,5 @@
 use Rattle.std.proofs.Common.{ap, refl, Some}
-use Rattle.comb_io.proofs.Parts.{OnOk-of}
+use Rattle.comb_io.proofs.Results.{OnOk-of}
 use Rattle.comb_io.proofs.sure.SureShelfShelf.TheImpl.Goals as goal
 
 pub fetch-tells : goal.fetch-tells
