@@ -1,0 +1,9 @@
+pub mod MemberCases
+pub mod OrderCases
+pub mod Parts
+pub mod Runs
+pub mod KeyLaws
+pub mod KeyOrder
+pub mod PartsOrder
+pub mod OrderLaws
+pub mod ListingLaws

@@ -1,0 +1,11 @@
+pub mod Structure
+pub mod StructureCode
+pub mod StructureView
+pub mod StructureFalls
+pub mod Order
+pub mod Runs
+pub mod Membership
+pub mod Listing
+pub mod Bounded
+pub mod Text
+pub mod Laws

@@ -1,0 +1,80 @@
+//! Structures: the derivations that a grammar's expressions have, and their order.
+//!
+//! A contract sees a structure as a plain tree.
+#![tactic(auto)]
+
+mod comparison;
+mod keys;
+mod laws;
+mod tree;
+
+pub use comparison::compare;
+pub use laws::{list_order_is_total, listing_is_unique, order_goes_inside, order_is_total};
+use seq::Seq;
+pub use tree::{Form5, Shape, Struct, copy, size};
+
+/// A list of structures.
+pub type Structs = Seq<Struct>;
+
+#[cfg(test)]
+mod tests {
+    use super::*;
+    use std::cmp::Ordering;
+    use std::test::Fail;
+
+    #[test]
+    fn a_list_of_three(rt: HostRuntime) -> Result<(), Fail> {
+        let mut parts = Structs::new(rt.alloc());
+        parts.push(Struct {
+            shape: Shape::Atom(0, 2),
+        })?;
+        parts.push(Struct {
+            shape: Shape::Eps(3),
+        })?;
+        let atom = Struct {
+            shape: Shape::Atom(0, 1),
+        };
+        parts.push(Struct {
+            shape: Shape::Alt(2, Box::new(rt.alloc(), atom)?),
+        })?;
+        let list = Struct {
+            shape: Shape::Tup(Form5::Sequence, parts),
+        };
+        assert_eq!(rt; size(&list), 2);
+        let copied = copy(rt.alloc(), &list)?;
+        assert!(rt; compare(&list, &copied) == Ordering::Equal);
+        let named = Struct {
+            shape: Shape::Named(1, Box::new(rt.alloc(), copied)?),
+        };
+        assert!(rt; compare(&named, &list) == Ordering::Less);
+        Ok(())
+    }
+
+    #[test]
+    fn the_laws(_rt: HostRuntime) -> Result<(), Fail> {
+        order_is_total();
+        order_goes_inside();
+        list_order_is_total();
+        listing_is_unique();
+        Ok(())
+    }
+
+    #[test]
+    fn the_least_label_first(rt: HostRuntime) -> Result<(), Fail> {
+        let mut parts = Structs::new(rt.alloc());
+        parts.push(Struct {
+            shape: Shape::Atom(0, 2),
+        })?;
+        parts.push(Struct {
+            shape: Shape::Atom(0, 1),
+        })?;
+        let pair = Struct {
+            shape: Shape::Tup(Form5::Cycle, parts),
+        };
+        let second = Struct {
+            shape: Shape::Atom(7, 2),
+        };
+        assert!(rt; compare(&second, &pair) == Ordering::Greater);
+        Ok(())
+    }
+}
