@@ -1,0 +1,5 @@
+pub mod Input
+pub mod Unlabelled
+pub mod Names
+pub mod Refusals
+pub mod Outcome

@@ -1,0 +1,21 @@
+mod ListerCases
+pub mod BySize
+pub mod Enumerated
+pub mod Labels
+pub mod SplitLaws
+pub mod OrderFacts
+pub mod Arguments
+pub mod Components
+pub mod Numbers
+pub mod RuleLaws
+pub mod Hub
+pub mod LaterLaws
+pub mod WithinBounds
+pub mod FilterLaws
+pub mod Supplies
+pub mod Segments
+pub mod LaterTests
+pub mod Listed
+pub mod Equations
+pub mod Sizes
+pub mod CallerLemmas

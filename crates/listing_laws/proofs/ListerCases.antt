@@ -1,0 +1,90 @@
+-- Worked cases of splits and of what is listed, by computing.
+use Rattle.std.specs.Prelude.{◌≡◌, ℕ, true, false, List, [], ◌∷◌, refl, codes}
+use Rattle.spec_syntax.specs.declared.statement.Universe.TheVariants.{Unlabelled}
+use Rattle.spec_syntax.specs.Expression as expr
+use Rattle.spec_syntax.specs.Expression.{Expression, expressions_of}
+use Rattle.spec_syntax.specs.Grammar.{Grammar}
+use Rattle.struct_model.specs.Structure.{Structure, Eps, Atom, Named, Alt}
+use Rattle.listing_laws.specs.Splits.{Split, splits}
+use Rattle.listing_laws.specs.Lister.{product, lists_to_depth}
+use Rattle.listing_laws.specs.Later.{uses_only_later}
+
+abbrev split : List ℕ → List ℕ → Split
+split part rest = record { part = part; rest = rest }
+
+splits_of_zeros : splits (0 ∷ 0 ∷ []) ≡ split [] (0 ∷ 0 ∷ []) ∷ split (0 ∷ []) (0 ∷ []) ∷ split (0 ∷ 0 ∷ []) [] ∷ []
+splits_of_zeros = refl
+
+splits_of_labels : splits (1 ∷ 2 ∷ 4 ∷ []) ≡
+    split [] (1 ∷ 2 ∷ 4 ∷ []) ∷ split (1 ∷ []) (2 ∷ 4 ∷ []) ∷ split (1 ∷ 2 ∷ []) (4 ∷ []) ∷ split (1 ∷ 2 ∷ 4 ∷ []) [] ∷ split (1 ∷ 4 ∷ []) (2 ∷ [])
+    ∷ split (2 ∷ []) (1 ∷ 4 ∷ []) ∷ split (2 ∷ 4 ∷ []) (1 ∷ []) ∷ split (4 ∷ []) (1 ∷ 2 ∷ []) ∷ []
+splits_of_labels = refl
+
+splits_of_repeats : splits (1 ∷ 1 ∷ 2 ∷ []) ≡
+    split [] (1 ∷ 1 ∷ 2 ∷ []) ∷ split (1 ∷ []) (1 ∷ 2 ∷ []) ∷ split (1 ∷ 1 ∷ []) (2 ∷ []) ∷ split (1 ∷ 1 ∷ 2 ∷ []) [] ∷ split (1 ∷ 2 ∷ []) (1 ∷ []) ∷ split (2 ∷ []) (1 ∷ 1 ∷ []) ∷ []
+splits_of_repeats = refl
+
+abbrev unlabelled : List (List ℕ × Expression) → Grammar
+unlabelled rules = record { rules = rules; universe = Unlabelled }
+
+abbrev z : Structure
+z = Atom 0 0
+
+-- S = Prod(A, Union(Z, Z)), A = Union(Z, Prod(Z, Z))
+abbrev pairs : Grammar
+pairs = unlabelled (
+    (codes "S", expr.Prod (expressions_of (expr.Name (codes "A") ∷ expr.Union (expressions_of (expr.Atom ∷ expr.Atom ∷ [])) ∷ [])))
+    ∷ (codes "A", expr.Union (expressions_of (expr.Atom ∷ expr.Prod (expressions_of (expr.Atom ∷ expr.Atom ∷ [])) ∷ [])))
+    ∷ [])
+
+abbrev pair : ℕ → Structure
+pair argument = Named 1 (product (Named 2 (Alt 2 (product (z ∷ z ∷ []))) ∷ Alt argument z ∷ []))
+
+pairs_of_size_3 : lists_to_depth pairs 2 (expr.Name (codes "S")) (0 ∷ 0 ∷ 0 ∷ []) ≡ pair 1 ∷ pair 2 ∷ []
+pairs_of_size_3 = refl
+
+pairs_of_size_1 : lists_to_depth pairs 2 (expr.Name (codes "S")) (0 ∷ []) ≡ []
+pairs_of_size_1 = refl
+
+pairs_use_later : uses_only_later pairs.rules ≡ true
+pairs_use_later = refl
+
+-- B = Union(Z, Prod(B, B))
+abbrev binary : Grammar
+binary = unlabelled ((codes "B", expr.Union (expressions_of (expr.Atom ∷ expr.Prod (expressions_of (expr.Name (codes "B") ∷ expr.Name (codes "B") ∷ [])) ∷ []))) ∷ [])
+
+abbrev leaf : Structure
+leaf = Named 1 (Alt 1 z)
+
+abbrev fork : Structure → Structure → Structure
+fork s t = Named 1 (Alt 2 (product (s ∷ t ∷ [])))
+
+binary_of_size_3 : lists_to_depth binary 5 (expr.Name (codes "B")) (0 ∷ 0 ∷ 0 ∷ []) ≡ fork leaf (fork leaf leaf) ∷ fork (fork leaf leaf) leaf ∷ []
+binary_of_size_3 = refl
+
+binary_to_depth_2 : lists_to_depth binary 2 (expr.Name (codes "B")) (0 ∷ 0 ∷ 0 ∷ []) ≡ []
+binary_to_depth_2 = refl
+
+binary_uses_itself : uses_only_later binary.rules ≡ false
+binary_uses_itself = refl
+
+-- T = Union(A, Prod(Z, A, E)), A = Atom, E = Epsilon, F = E
+abbrev worded : Grammar
+worded = unlabelled (
+    (codes "T", expr.Union (expressions_of (expr.Name (codes "A") ∷ expr.Prod (expressions_of (expr.Atom ∷ expr.Name (codes "A") ∷ expr.Name (codes "E") ∷ [])) ∷ [])))
+    ∷ (codes "A", expr.Atom)
+    ∷ (codes "F", expr.Name (codes "E"))
+    ∷ (codes "E", expr.Epsilon)
+    ∷ [])
+
+worded_of_size_1 : lists_to_depth worded 4 (expr.Name (codes "T")) (0 ∷ []) ≡ Named 1 (Alt 1 (Atom 2 0)) ∷ []
+worded_of_size_1 = refl
+
+worded_of_size_2 : lists_to_depth worded 4 (expr.Name (codes "T")) (0 ∷ 0 ∷ []) ≡ Named 1 (Alt 2 (product (z ∷ Atom 2 0 ∷ Eps 4 ∷ []))) ∷ []
+worded_of_size_2 = refl
+
+name_of_epsilon : lists_to_depth worded 4 (expr.Name (codes "F")) [] ≡ Named 3 (Eps 4) ∷ []
+name_of_epsilon = refl
+
+no_rule : lists_to_depth worded 4 (expr.Name (codes "X")) [] ≡ []
+no_rule = refl

@@ -1,0 +1,5 @@
+use Rattle.listing_laws.proofs.Equations as equations
+use Rattle.listing_laws.proofs.prod_is_listed.Goals as goal
+
+pub returns : goal.returns
+returns c = equations.prod_is_listed

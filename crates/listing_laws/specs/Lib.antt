@@ -1,0 +1,5 @@
+pub mod Splits
+pub mod Lister
+pub mod Later
+pub mod BySize
+pub mod Laws

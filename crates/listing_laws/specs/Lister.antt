@@ -1,0 +1,88 @@
+-- What an expression lists on a supply of labels, by recursion on the expression, given what each name lists.
+use Rattle.std.specs.Prelude.{ℕ, zero, suc, ◌+◌, List, [], ◌∷◌, ◌++◌, map}
+use Rattle.std.specs.Option.{option_map_or}
+use Rattle.std.specs.List.{flat_map}
+use Rattle.spec_syntax.specs.Expression as expr
+use Rattle.spec_syntax.specs.Expression.{Expression, Expressions, no_expressions, more_expressions}
+use Rattle.spec_syntax.specs.Rules.{symbol, right_side}
+use Rattle.spec_syntax.specs.Grammar.{Grammar}
+use Rattle.struct_model.specs.declared.tree.Form5.TheVariants as form
+use Rattle.struct_model.specs.Structure.{Structure, Eps, Atom, Named, Alt, Tup, parts_of}
+use Rattle.listing_laws.specs.Splits.{splits}
+
+-- what each name lists on a supply
+abbrev pub Names : Type 0
+Names = List ℕ → List ℕ → List Structure
+
+-- the product of these components
+abbrev pub product : List Structure → Structure
+product components = Tup form.Prod (parts_of components)
+
+-- the structure of size 0, where there is no label
+abbrev pub list_epsilon : List ℕ → List Structure
+list_epsilon [] = Eps 0 ∷ []
+list_epsilon (label ∷ labels) = []
+
+-- the atom with the label, where there is one
+abbrev pub list_atom : List ℕ → List Structure
+list_atom [] = []
+list_atom (label ∷ []) = Atom 0 label ∷ []
+list_atom (label ∷ other ∷ labels) = []
+
+-- no components, where there is no label
+abbrev pub list_no_components : List ℕ → List (List Structure)
+list_no_components [] = [] ∷ []
+list_no_components (label ∷ labels) = []
+
+-- each argument's structures in turn, told by the argument's number, which begins at k
+abbrev pub alternatives : ℕ → List (List Structure) → List Structure
+alternatives k [] = []
+alternatives k (structures ∷ others) = map (Alt k) structures ++ alternatives (k + 1) others
+
+-- each first component before each list of the others
+abbrev pub each_before : List Structure → List (List Structure) → List (List Structure)
+each_before firsts others = flat_map (λ first. map (λ rest. first ∷ rest) others) firsts
+
+-- the lists of components: split by split of the supply, then by the first component, then by the others
+abbrev pub by_splits : (List ℕ → List Structure) → (List ℕ → List (List Structure)) → List ℕ → List (List Structure)
+by_splits first others u = flat_map (λ split. each_before (first split.part) (others split.rest)) (splits u)
+
+abbrev mutual
+  -- what the expression lists on the supply. A container lists nothing here: the laws speak of expressions without any
+  pub list_with : Names → Expression → List ℕ → List Structure
+  list_with names expr.Epsilon u = list_epsilon u
+  list_with names expr.Atom u = list_atom u
+  list_with names (expr.Name name) u = names name u
+  list_with names (expr.Union arguments) u = alternatives 1 (list_each names arguments u)
+  list_with names (expr.Prod components) u = map product (list_components names components u)
+  list_with names (expr.Many kind element card) u = []
+
+  -- what each of the expressions lists on the supply
+  pub list_each : Names → Expressions → List ℕ → List (List Structure)
+  list_each names no_expressions u = []
+  list_each names (more_expressions e es) u = list_with names e u ∷ list_each names es u
+
+  -- the lists of components, one of each expression, on the supply
+  pub list_components : Names → Expressions → List ℕ → List (List Structure)
+  list_components names no_expressions u = list_no_components u
+  list_components names (more_expressions e es) u = by_splits (list_with names e) (list_components names es) u
+
+-- what the rule of this number makes of a structure of its right side: a word takes the number, and all else is put inside
+abbrev pub named : ℕ → Structure → Structure
+named number (Eps zero) = Eps number
+named number (Atom zero label) = Atom number label
+named number s = Named number s
+
+-- what a rule's name lists, given what right sides list
+abbrev pub list_rule : Grammar → (Expression → List ℕ → List Structure) → Names
+list_rule g lister name u =
+    option_map_or (λ number. option_map_or (λ right. map (named number) (lister right u)) (right_side g.rules number) []) (symbol g.rules name) []
+
+-- what each name lists with at most so many rules inside one another
+abbrev pub names_to_depth : Grammar → ℕ → Names
+names_to_depth g zero name u = []
+names_to_depth g (suc depth) name u = list_rule g (list_with (names_to_depth g depth)) name u
+
+-- what the expression lists with at most so many rules inside one another
+abbrev pub lists_to_depth : Grammar → ℕ → Expression → List ℕ → List Structure
+lists_to_depth g depth e u = list_with (names_to_depth g depth) e u

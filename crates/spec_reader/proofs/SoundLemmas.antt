@@ -1,0 +1,266 @@
+-- A reader stays sound over a token that it takes.
+use Rattle.std.specs.Prelude.{if◌then◌else◌}
+use Rattle.std.proofs.Common.{◌≡◌, ℕ, ◌+◌, Bool, true, false, ◌||◌, nat_le, Option, Some, None, List, [], ◌∷◌, ◌++◌, length, reverse, refl, sym, ap, ◌∙◌, subst, arith}
+use Rattle.std.specs.List.{list_all}
+use Rattle.std.proofs.lemmas.Bool.Decides.{nat_tests}
+use Rattle.std.proofs.lemmas.List.{reverse-append, length-reverse}
+use Rattle.spec_syntax.specs.Word.{is_word}
+use Rattle.spec_syntax.specs.Expression.{Epsilon, Atom, Name}
+use Rattle.spec_syntax.specs.Rules.{is_same_name}
+use Rattle.spec_reader.specs.declared.token.Sign.TheVariants as sign
+use Rattle.spec_reader.specs.declared.token.Keyword.TheVariants as word
+use Rattle.spec_reader.specs.declared.table.Item.{Item}
+use Rattle.spec_reader.specs.declared.table.Item.TheVariants as item
+use Rattle.spec_reader.specs.declared.table.Head.{Head}
+use Rattle.spec_reader.specs.declared.table.Head.TheVariants as head
+use Rattle.spec_reader.specs.declared.table.Former.TheVariants as former
+use Rattle.spec_reader.specs.declared.table.Role.{Role}
+use Rattle.spec_reader.specs.declared.table.Role.TheVariants as role
+use Rattle.spec_reader.specs.declared.draft.Command.{Command}
+use Rattle.spec_reader.specs.declared.draft.Command.TheVariants as command
+use Rattle.spec_reader.specs.declared.draft.Compound.{Compound}
+use Rattle.spec_reader.specs.declared.draft.Draft.{Draft}
+use Rattle.spec_reader.specs.declared.seen.Seen.{Seen}
+use Rattle.spec_reader.specs.Tokens as token
+use Rattle.spec_reader.specs.Tokens.{Token, text_of, value, is_spelled}
+use Rattle.spec_reader.specs.Limits.{is_deeper, repeats}
+use Rattle.spec_reader.specs.Seen.{reason_in, seen_after}
+use Rattle.spec_reader.specs.Table.{is_mark, is_reserved, is_name, head_of, arguments, step, is_shallow, role_of, Takes}
+use Rattle.spec_reader.specs.Drafts.{put, close, act, begin_at, sized, is_filled, is_ready, built}
+use Rattle.spec_reader.specs.Machine.{are_distinct, is_sound_seen, is_sound}
+use Rattle.spec_reader.specs.declared.read.Reader.{Reader}
+use Rattle.spec_reader.proofs.LimitLemmas.{reason-none, fresh-name, only_if-true}
+use Rattle.spec_reader.proofs.DraftLemmas.{Holds, begun-holds, put-holds, close-holds, put-filled, close-filled, ready-filled}
+
+abbrev are_shallow : Option (List Item) → Bool
+are_shallow None = true
+are_shallow (Some row) = list_all is_shallow row
+
+arguments-shallow : (depth : ℕ) (head : Option Head) → is_deeper 32 (role.ExprStart depth) ≡ false → are_shallow (arguments depth head) ≡ true
+arguments-shallow depth None low = refl
+arguments-shallow depth (Some head.Epsilon) low = refl
+arguments-shallow depth (Some head.Atom) low = refl
+arguments-shallow depth (Some head.Name) low = refl
+arguments-shallow depth (Some (head.Former former)) low = grind (arith, nat_tests, low)
+
+-- what is expected after a token is no deeper than is looked at
+pub step-shallow : (i : Item) (t : Token) → is_shallow i ≡ true → is_deeper 32 (role_of i) ≡ false → are_shallow (step i t) ≡ true
+step-shallow item.Statement t shallow low = grind arith
+step-shallow item.Class t shallow low = grind arith
+step-shallow item.Symbol t shallow low = grind arith
+step-shallow item.Rules t shallow low = grind arith
+step-shallow item.Rule t shallow low = grind arith
+step-shallow item.MoreRules t shallow low = grind arith
+step-shallow (item.Expr depth) t shallow low = arguments-shallow depth (head_of t) low
+step-shallow (item.MoreExprs depth) t shallow low = grind (arith, shallow)
+step-shallow item.Size t shallow low = grind arith
+step-shallow (item.Mark sign) t shallow low = grind arith
+step-shallow (item.Reserved keyword) t shallow low = grind arith
+
+abbrev row_ready : Option (List Item) → List Item → List Compound → Bool
+row_ready None rest pending = true
+row_ready (Some row) rest pending = is_ready (row ++ rest) pending
+
+begin-ready : (depth : ℕ) (t : Token) (head : Option Head) (rest : List Item) (draft : Draft) → row_ready (arguments depth head) rest (begin_at t head draft).pending ≡ true
+begin-ready depth t None rest draft = refl
+begin-ready depth t (Some head.Epsilon) rest draft = ready-filled rest (put Epsilon draft).pending (put-filled Epsilon draft)
+begin-ready depth t (Some head.Atom) rest draft = ready-filled rest (put Atom draft).pending (put-filled Atom draft)
+begin-ready depth t (Some head.Name) rest draft = ready-filled rest (put (Name (text_of t)) draft).pending (put-filled (Name (text_of t)) draft)
+begin-ready depth t (Some (head.Former former.Union)) rest draft = refl
+begin-ready depth t (Some (head.Former former.Prod)) rest draft = refl
+
+sized-pending : (t : Token) (draft : Draft) → (sized t draft).pending ≡ draft.pending
+sized-pending (token.Number digits) draft = refl
+sized-pending (token.Name text) draft = refl
+sized-pending (token.Mark s) draft = refl
+sized-pending (token.Reserved k) draft = refl
+sized-pending (token.Text text) draft = refl
+sized-pending token.Stray draft = refl
+
+sized-rights : (t : Token) (draft : Draft) → (sized t draft).rights ≡ draft.rights
+sized-rights (token.Number digits) draft = refl
+sized-rights (token.Name text) draft = refl
+sized-rights (token.Mark s) draft = refl
+sized-rights (token.Reserved k) draft = refl
+sized-rights (token.Text text) draft = refl
+sized-rights token.Stray draft = refl
+
+-- the table can go on after a token
+pub step-ready : (i : Item) (t : Token) (rest : List Item) (draft : Draft) → is_ready (i ∷ rest) draft.pending ≡ true → row_ready (step i t) rest (act i t draft).pending ≡ true
+step-ready item.Statement t rest draft ready = grind (arith, ready)
+step-ready item.Class t rest draft ready = grind (arith, ready)
+step-ready item.Symbol t rest draft ready = grind (arith, ready)
+step-ready item.Rules t rest draft ready = grind (arith, ready)
+step-ready item.Rule t rest draft ready = grind (arith, ready)
+step-ready item.MoreRules t rest draft ready = grind (arith, ready)
+step-ready (item.Expr depth) t rest draft ready = begin-ready depth t (head_of t) rest draft
+step-ready (item.MoreExprs depth) t rest draft ready = grind (arith, ready-filled rest (close draft).pending (close-filled draft))
+step-ready item.Size t rest draft ready = rw (sized-pending t draft) (grind (arith, ready))
+step-ready (item.Mark sign) t rest draft ready = grind (arith, ready)
+step-ready (item.Reserved keyword) t rest draft ready = grind (arith, ready)
+
+abbrev weight : Role → ℕ
+weight (role.ExprStart depth) = 1
+weight role.Plain = 0
+weight role.RuleName = 0
+weight role.SizeNumber = 0
+
+more-holds : (n : ℕ) (draft : Draft) → Holds n draft → Holds (n + 1) draft
+more-holds n draft holds = record { rights = holds.rights; pending = holds.pending; count = omega (arith, holds.count) }
+
+same-holds : (n : ℕ) (draft : Draft) → Holds n draft → Holds (n + 0) draft
+same-holds n draft holds = record { rights = holds.rights; pending = holds.pending; count = omega (arith, holds.count) }
+
+begin-holds : (n : ℕ) (t : Token) (head : Option Head) (draft : Draft) → Holds n draft → Holds (n + 1) (begin_at t head draft)
+begin-holds n t None draft holds = more-holds n draft holds
+begin-holds n t (Some head.Epsilon) draft holds = put-holds n Epsilon draft holds refl
+begin-holds n t (Some head.Atom) draft holds = put-holds n Atom draft holds refl
+begin-holds n t (Some head.Name) draft holds = put-holds n (Name (text_of t)) draft holds refl
+begin-holds n t (Some (head.Former former)) draft holds = begun-holds n former draft holds
+
+sized-holds : (n : ℕ) (t : Token) (draft : Draft) → Holds n draft → Holds (n + 0) (sized t draft)
+sized-holds n (token.Number digits) draft holds = same-holds n (record draft { size = value digits }) (record { rights = holds.rights; pending = holds.pending; count = holds.count })
+sized-holds n (token.Name text) draft holds = same-holds n draft holds
+sized-holds n (token.Mark s) draft holds = same-holds n draft holds
+sized-holds n (token.Reserved k) draft holds = same-holds n draft holds
+sized-holds n (token.Text text) draft holds = same-holds n draft holds
+sized-holds n token.Stray draft holds = same-holds n draft holds
+
+command-holds : (n : ℕ) (b : Bool) (command : Command) (draft : Draft) → Holds n draft → Holds (n + 0) (if b then record draft { command = Some command } else draft)
+command-holds n true command draft holds = same-holds n (record draft { command = Some command }) (record { rights = holds.rights; pending = holds.pending; count = holds.count })
+command-holds n false command draft holds = same-holds n draft holds
+
+closing-holds : (n : ℕ) (b : Bool) (draft : Draft) → Holds n draft → is_filled draft.pending ≡ true → Holds (n + 0) (if b then close draft else draft)
+closing-holds n true draft holds filled = same-holds n (close draft) (close-holds n draft holds filled)
+closing-holds n false draft holds filled = same-holds n draft holds
+
+-- what is built with a token is well formed, and has at most one expression more where an expression begins
+pub act-holds : (n : ℕ) (i : Item) (t : Token) (rest : List Item) (draft : Draft) → Holds n draft → is_ready (i ∷ rest) draft.pending ≡ true → Holds (n + weight (role_of i)) (act i t draft)
+act-holds n item.Statement t rest draft holds ready = command-holds n (is_reserved word.AllStructs t) command.AllStructs draft holds
+act-holds n item.Class t rest draft holds ready = same-holds n draft holds
+act-holds n item.Symbol t rest draft holds ready = same-holds n (record draft { symbol = text_of t }) (record { rights = holds.rights; pending = holds.pending; count = holds.count })
+act-holds n item.Rules t rest draft holds ready = same-holds n draft holds
+act-holds n item.Rule t rest draft holds ready = same-holds n draft holds
+act-holds n item.MoreRules t rest draft holds ready = same-holds n draft holds
+act-holds n (item.Expr depth) t rest draft holds ready = begin-holds n t (head_of t) draft holds
+act-holds n (item.MoreExprs depth) t rest draft holds ready = closing-holds n (is_mark sign.CloseParen t) draft holds ready
+act-holds n item.Size t rest draft holds ready = sized-holds n t draft holds
+act-holds n (item.Mark sign) t rest draft holds ready = same-holds n draft holds
+act-holds n (item.Reserved keyword) t rest draft holds ready = same-holds n draft holds
+
+same-sym : (a b : List ℕ) → is_same_name a b ≡ is_same_name b a
+same-sym [] [] = refl
+same-sym [] (y ∷ b) = refl
+same-sym (x ∷ a) [] = refl
+same-sym (x ∷ a) (y ∷ b) = grind (arith, nat_tests, same-sym a b)
+
+repeats-push : (names : List (List ℕ)) (name text : List ℕ) → repeats (names ++ text ∷ []) name ≡ (repeats names name || is_same_name text name)
+repeats-push [] name text = grind arith
+repeats-push (first ∷ names) name text = grind (arith, repeats-push names name text)
+
+distinct-push : (names : List (List ℕ)) (text : List ℕ) → are_distinct names ≡ true → repeats names text ≡ false → are_distinct (names ++ text ∷ []) ≡ true
+distinct-push [] text distinct fresh = refl
+distinct-push (name ∷ names) text distinct fresh = grind (arith, distinct-push names text, repeats-push names name text, same-sym text name)
+
+words-push : (names : List (List ℕ)) (text : List ℕ) → list_all is_word names ≡ true → is_word text ≡ true → list_all is_word (names ++ text ∷ []) ≡ true
+words-push [] text all here = grind (arith, here)
+words-push (name ∷ names) text all here = grind (arith, words-push names text)
+
+name-step : (seen : Seen) (t : Token) → is_name t ≡ true → is_spelled t ≡ true → is_sound_seen seen ≡ true → reason_in seen role.RuleName t ≡ None → is_sound_seen (seen_after role.RuleName t seen) ≡ true
+name-step seen (token.Name text) named spelled sound none =
+    let passes = reason-none (reverse seen.names) seen.expressions role.RuleName (token.Name text) none in
+    let fresh : repeats (reverse seen.names) text ≡ false = fresh-name (reverse seen.names) (token.Name text) passes.repeated in
+    let turned : reverse (text ∷ seen.names) ≡ reverse seen.names ++ text ∷ [] = reverse-append (text ∷ []) seen.names in
+    let distinct : are_distinct (reverse seen.names ++ text ∷ []) ≡ true = distinct-push (reverse seen.names) text (grind (arith, sound)) fresh in
+    let words : list_all is_word (reverse seen.names ++ text ∷ []) ≡ true = words-push (reverse seen.names) text (grind (arith, sound)) spelled in
+    let few : nat_le (length (text ∷ seen.names)) 64 ≡ true = grind (arith, nat_tests, passes.rules, length-reverse seen.names) in
+    let small : nat_le seen.expressions 128 ≡ true = grind (arith, sound) in
+    rw turned (grind (arith, distinct, words, few, small))
+name-step seen (token.Mark s) named spelled sound none = cc
+name-step seen (token.Reserved k) named spelled sound none = cc
+name-step seen (token.Number digits) named spelled sound none = cc
+name-step seen (token.Text text) named spelled sound none = cc
+name-step seen token.Stray named spelled sound none = cc
+
+expr-step : (seen : Seen) (depth : ℕ) (t : Token) → is_sound_seen seen ≡ true → reason_in seen (role.ExprStart depth) t ≡ None → is_sound_seen (seen_after (role.ExprStart depth) t seen) ≡ true
+expr-step seen depth t sound none =
+    let passes = reason-none (reverse seen.names) seen.expressions (role.ExprStart depth) t none in
+    let small : nat_le (seen.expressions + 1) 128 ≡ true = grind (arith, nat_tests, passes.nodes) in
+    grind (arith, sound, small)
+
+only-name : (t : Token) (row : List Item) → step item.Rule t ≡ Some row → is_name t ≡ true
+only-name t row e = only_if-true (is_name t) _ row e
+
+-- what was seen stays within the limits
+pub seen-step : (seen : Seen) (i : Item) (t : Token) (row : List Item) → step i t ≡ Some row → is_spelled t ≡ true → is_sound_seen seen ≡ true → reason_in seen (role_of i) t ≡ None
+    → is_sound_seen (seen_after (role_of i) t seen) ≡ true
+seen-step seen item.Statement t row fits spelled sound none = sound
+seen-step seen item.Class t row fits spelled sound none = sound
+seen-step seen item.Symbol t row fits spelled sound none = sound
+seen-step seen item.Rules t row fits spelled sound none = sound
+seen-step seen item.Rule t row fits spelled sound none = name-step seen t (only-name t row fits) spelled sound none
+seen-step seen item.MoreRules t row fits spelled sound none = sound
+seen-step seen (item.Expr depth) t row fits spelled sound none = expr-step seen depth t sound none
+seen-step seen (item.MoreExprs depth) t row fits spelled sound none = sound
+seen-step seen item.Size t row fits spelled sound none = sound
+seen-step seen (item.Mark sign) t row fits spelled sound none = sound
+seen-step seen (item.Reserved keyword) t row fits spelled sound none = sound
+
+list_all-append : (xs ys : List Item) → list_all is_shallow xs ≡ true → list_all is_shallow ys ≡ true → list_all is_shallow (xs ++ ys) ≡ true
+list_all-append [] ys front back = back
+list_all-append (x ∷ xs) ys front back = grind (arith, list_all-append xs ys)
+
+-- the parts of what a reader keeps
+pub record Sound (expected : List Item) (seen : Seen) (draft : Draft) : Type 0 where
+  pub shallow : list_all is_shallow expected ≡ true
+  pub ready : is_ready expected draft.pending ≡ true
+  pub within : is_sound_seen seen ≡ true
+  pub holds : Holds seen.expressions draft
+
+pub sound-parts : (reader : Reader) → is_sound reader ≡ true → Sound reader.expected reader.seen reader.draft
+sound-parts reader sound = record {
+  shallow = grind (arith, sound);
+  ready = grind (arith, sound);
+  within = grind (arith, sound);
+  holds = record { rights = grind (arith, sound); pending = grind (arith, sound); count = grind (arith, nat_tests, sound) };
+}
+
+pub sound-whole : (reader : Reader) → Sound reader.expected reader.seen reader.draft → is_sound reader ≡ true
+sound-whole reader sound =
+    let enough : nat_le (built reader.draft) reader.seen.expressions ≡ true = grind (arith, nat_tests, sound.holds.count) in
+    grind (arith, sound.shallow, sound.ready, sound.within, sound.holds.rights, sound.holds.pending, enough)
+
+weighed : (i : Role) (t : Token) (seen : Seen) → (seen_after i t seen).expressions ≡ seen.expressions + weight i
+weighed role.Plain t seen = omega arith
+weighed role.RuleName t seen = omega arith
+weighed (role.ExprStart depth) t seen = refl
+weighed role.SizeNumber t seen = omega arith
+
+row-sound : (i : Item) (rest : List Item) (found : Option (List Item)) (row : List Item) (t : Token) (seen : Seen) (draft : Draft) → step i t ≡ found → found ≡ Some row
+    → reason_in seen (role_of i) t ≡ None → is_spelled t ≡ true → Sound (i ∷ rest) seen draft → Sound (row ++ rest) (seen_after (role_of i) t seen) (act i t draft)
+row-sound i rest found row t seen draft is fits none spelled sound =
+    let passes = reason-none (reverse seen.names) seen.expressions (role_of i) t none in
+    let front : are_shallow (Some row) ≡ true = ap are_shallow (sym (is ∙ fits)) ∙ step-shallow i t (grind (arith, sound.shallow)) passes.depth in
+    let ready : row_ready (Some row) rest (act i t draft).pending ≡ true = ap (λ o. row_ready o rest (act i t draft).pending) (sym (is ∙ fits)) ∙ step-ready i t rest draft sound.ready in
+    record {
+      shallow = list_all-append row rest front (grind (arith, sound.shallow));
+      ready = ready;
+      within = seen-step seen i t row (is ∙ fits) spelled sound.within none;
+      holds = subst (λ n. Holds n (act i t draft)) (sym (weighed (role_of i) t seen)) (act-holds seen.expressions i t rest draft sound.holds sound.ready);
+    }
+
+takes-on : (i : Item) (rest after : List Item) (found : Option (List Item)) (t : Token) (seen : Seen) (draft : Draft) → step i t ≡ found → Takes found true rest after
+    → reason_in seen (role_of i) t ≡ None → is_spelled t ≡ true → Sound (i ∷ rest) seen draft → Sound after (seen_after (role_of i) t seen) (act i t draft)
+takes-on i rest after None t seen draft is takes none spelled sound = cc (takes.0)
+takes-on i rest after (Some row) t seen draft is takes none spelled sound = rw takes.1 (row-sound i rest (Some row) row t seen draft is refl none spelled sound)
+
+-- a reader stays sound over a token that it takes
+pub takes-sound : (reader : Reader) (i : Item) (rest after : List Item) (fits : Bool) (r : Role) (t : Token) (seen : Seen) (draft : Draft)
+    → reader.expected ≡ i ∷ rest → Takes (step i t) fits rest after → fits ≡ true → r ≡ role_of i → reason_in reader.seen r t ≡ None
+    → seen ≡ seen_after r t reader.seen → draft ≡ act i t reader.draft → is_spelled t ≡ true → is_sound reader ≡ true
+    → is_sound (record { expected = after; seen = seen; draft = draft }) ≡ true
+takes-sound reader i rest after fits r t seen draft expected takes fit role_is none seen_is draft_is spelled sound =
+    let before : Sound (i ∷ rest) reader.seen reader.draft = subst (λ items. Sound items reader.seen reader.draft) expected (sound-parts reader sound) in
+    let taken : Takes (step i t) true rest after = subst (λ b. Takes (step i t) b rest after) fit takes in
+    rw (seen_is, draft_is, role_is) (sound-whole (record { expected = after; seen = seen_after (role_of i) t reader.seen; draft = act i t reader.draft })
+    (takes-on i rest after (step i t) t reader.seen reader.draft refl taken (rw (← role_is) none) spelled before))

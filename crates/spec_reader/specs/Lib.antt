@@ -1,0 +1,10 @@
+pub mod Cutting
+pub mod Tokens
+pub mod TokenView
+pub mod Grammar
+pub mod Limits
+pub mod Table
+pub mod Drafts
+pub mod Seen
+pub mod Machine
+pub mod Places

@@ -1,0 +1,122 @@
+-- The table of the grammar: what a token may be where something is expected, and what is expected after it.
+use Rattle.std.specs.Prelude.{ℕ, suc, Bool, true, false, List, [], ◌∷◌, ◌++◌, ◌≡◌, nat_le, Option, Some, None, if◌then◌else◌}
+use Rattle.std.specs.Str.{bytes_eq}
+use Rattle.spec_reader.specs.declared.token.Sign.{Sign}
+use Rattle.spec_reader.specs.declared.token.Sign.TheVariants as sign
+use Rattle.spec_reader.specs.declared.token.Keyword.{Keyword}
+use Rattle.spec_reader.specs.declared.token.Keyword.TheVariants as word
+use Rattle.spec_reader.specs.declared.table.Role.{Role}
+use Rattle.spec_reader.specs.declared.table.Role.TheVariants as role
+use Rattle.spec_reader.specs.declared.table.Item.{Item}
+use Rattle.spec_reader.specs.declared.table.Item.TheVariants as item
+use Rattle.spec_reader.specs.declared.table.Head.{Head}
+use Rattle.spec_reader.specs.declared.table.Head.TheVariants as head
+use Rattle.spec_reader.specs.declared.table.Former.TheVariants as former
+use Rattle.spec_reader.specs.Tokens.{Token, Mark, Reserved, Name, Number, Text, Stray, sign_text, keyword_text}
+
+abbrev pub is_mark : Sign → Token → Bool
+is_mark sign (Mark other) = bytes_eq (sign_text sign) (sign_text other)
+is_mark sign (Reserved _) = false
+is_mark sign (Name _) = false
+is_mark sign (Number _) = false
+is_mark sign (Text _) = false
+is_mark sign Stray = false
+
+abbrev pub is_reserved : Keyword → Token → Bool
+is_reserved keyword (Mark _) = false
+is_reserved keyword (Reserved other) = bytes_eq (keyword_text keyword) (keyword_text other)
+is_reserved keyword (Name _) = false
+is_reserved keyword (Number _) = false
+is_reserved keyword (Text _) = false
+is_reserved keyword Stray = false
+
+abbrev pub is_name : Token → Bool
+is_name (Mark _) = false
+is_name (Reserved _) = false
+is_name (Name _) = true
+is_name (Number _) = false
+is_name (Text _) = false
+is_name Stray = false
+
+abbrev pub is_number : Token → Bool
+is_number (Mark _) = false
+is_number (Reserved _) = false
+is_number (Name _) = false
+is_number (Number _) = true
+is_number (Text _) = false
+is_number Stray = false
+
+-- how an expression begins with a token
+abbrev pub head_of : Token → Option Head
+head_of token =
+    if is_reserved word.Epsilon token then Some head.Epsilon
+    else (if is_reserved word.Atom token then Some head.Atom
+    else (if is_reserved word.Z token then Some head.Atom
+    else (if is_name token then Some head.Name
+    else (if is_reserved word.Union token then Some (head.Former former.Union)
+    else (if is_reserved word.Prod token then Some (head.Former former.Prod) else None)))))
+
+abbrev pub arguments : ℕ → Option Head → Option (List Item)
+arguments depth None = None
+arguments depth (Some head.Epsilon) = Some []
+arguments depth (Some head.Atom) = Some []
+arguments depth (Some head.Name) = Some []
+arguments depth (Some (head.Former former.Union)) = Some (item.Mark sign.OpenParen ∷ item.Expr (suc depth) ∷ item.MoreExprs (suc depth) ∷ [])
+arguments depth (Some (head.Former former.Prod)) = Some (item.Mark sign.OpenParen ∷ item.Expr (suc depth) ∷ item.MoreExprs (suc depth) ∷ [])
+
+abbrev pub only_if : Bool → List Item → Option (List Item)
+only_if fits row = if fits then Some row else None
+
+-- what is expected after the token, in place of the item that takes it; None where the item can't take it
+abbrev pub step : Item → Token → Option (List Item)
+step item.Statement token =
+    if is_mark sign.Semicolon token then Some []
+    else only_if (is_reserved word.AllStructs token)
+    (item.Mark sign.OpenParen ∷ item.Class ∷ item.Mark sign.Comma ∷ item.Reserved word.Size ∷ item.Mark sign.Equals ∷ item.Size
+    ∷ item.Mark sign.CloseParen ∷ item.Mark sign.Semicolon ∷ [])
+step item.Class token =
+    only_if (is_mark sign.OpenBracket token)
+    (item.Symbol ∷ item.Mark sign.Comma ∷ item.Rules ∷ item.Mark sign.Comma ∷ item.Reserved word.Unlabelled ∷ item.Mark sign.CloseBracket ∷ [])
+step item.Symbol token = only_if (is_name token) []
+step item.Rules token = only_if (is_mark sign.OpenBrace token) (item.Rule ∷ item.MoreRules ∷ [])
+step item.Rule token = only_if (is_name token) (item.Mark sign.Equals ∷ item.Expr 1 ∷ [])
+step item.MoreRules token = if is_mark sign.Comma token then Some (item.Rule ∷ item.MoreRules ∷ []) else only_if (is_mark sign.CloseBrace token) []
+step (item.Expr depth) token = arguments depth (head_of token)
+step (item.MoreExprs depth) token =
+    if is_mark sign.Comma token then Some (item.Expr depth ∷ item.MoreExprs depth ∷ []) else only_if (is_mark sign.CloseParen token) []
+step item.Size token = only_if (is_number token) []
+step (item.Mark sign) token = only_if (is_mark sign token) []
+step (item.Reserved keyword) token = only_if (is_reserved keyword token) []
+
+-- the role of the token that an item takes
+abbrev pub role_of : Item → Role
+role_of item.Statement = role.Plain
+role_of item.Class = role.Plain
+role_of item.Symbol = role.Plain
+role_of item.Rules = role.Plain
+role_of item.Rule = role.RuleName
+role_of item.MoreRules = role.Plain
+role_of (item.Expr depth) = role.ExprStart depth
+role_of (item.MoreExprs depth) = role.Plain
+role_of item.Size = role.SizeNumber
+role_of (item.Mark sign) = role.Plain
+role_of (item.Reserved keyword) = role.Plain
+
+-- is the item of a depth that is looked at
+abbrev pub is_shallow : Item → Bool
+is_shallow item.Statement = true
+is_shallow item.Class = true
+is_shallow item.Symbol = true
+is_shallow item.Rules = true
+is_shallow item.Rule = true
+is_shallow item.MoreRules = true
+is_shallow (item.Expr depth) = nat_le depth 33
+is_shallow (item.MoreExprs depth) = nat_le depth 33
+is_shallow item.Size = true
+is_shallow (item.Mark sign) = true
+is_shallow (item.Reserved keyword) = true
+
+-- the row stands in front of what was expected; where there is none the token doesn't fit
+abbrev pub Takes : Option (List Item) → Bool → List Item → List Item → Type 0
+Takes None fits before after = (fits ≡ false) × (after ≡ before)
+Takes (Some row) fits before after = (fits ≡ true) × (after ≡ row ++ before)

@@ -1,0 +1,24 @@
+//! Scripts are cut into pieces, and a piece is read as a statement.
+//!
+//! A piece is read exactly where it is in the grammar and within the limits, and is refused at the first token that can't
+//! be right.
+#![tactic(auto)]
+
+mod cut;
+mod draft;
+mod place;
+mod read;
+mod refusal;
+mod seen;
+mod stack;
+mod statement;
+mod table;
+mod token;
+
+pub use cut::first_piece;
+pub use place::{Place, behind};
+pub use refusal::{ReadRefused, Which};
+pub use statement::read_statement;
+
+#[cfg(test)]
+mod tests;

@@ -1,0 +1,395 @@
+//! What pieces are read as, by a table.
+ghost use Rattle.std.specs.Prelude.{◌≡◌};
+ghost use Rattle.spec_reader.specs.Cutting.{begins_piece};
+
+use crate::cut::Region;
+use crate::{ReadRefused, Which, first_piece, read_statement};
+use spec_syntax::{ClassRef, ExprShape, Form, Job, RulesRef, Universe};
+use std::alloc::{AllocError, Global};
+use std::process::Abort;
+use std::test::Fail;
+
+const TEXT: &[u8] = b"allstructs([S, {S = Union(Z, Z)}, unlabelled], size = 1);";
+
+/// The places of the tokens of `TEXT`.
+const TOKENS: [(usize, usize); 24] = [
+    (0, 10),
+    (10, 11),
+    (11, 12),
+    (12, 13),
+    (13, 14),
+    (15, 16),
+    (16, 17),
+    (18, 19),
+    (20, 25),
+    (25, 26),
+    (26, 27),
+    (27, 28),
+    (29, 30),
+    (30, 31),
+    (31, 32),
+    (32, 33),
+    (34, 44),
+    (44, 45),
+    (45, 46),
+    (47, 51),
+    (52, 53),
+    (54, 55),
+    (55, 56),
+    (56, 57),
+];
+
+/// What is wanted of a piece.
+#[derive(Clone, Copy, PartialEq, Eq, Debug)]
+enum Answer {
+    Read,
+    Syntax(u32, u32),
+    Duplicate,
+    Limit(Which),
+    NotText,
+    Memory,
+}
+
+/// Whether a piece begins with its first byte.
+fn begins_piece(piece: &[u8]) -> bool
+    ensures { result ≡ begins_piece piece.now }
+{
+    match piece {
+        [first, ..] => !Region::Open.skips(*first),
+        [] => false,
+    }
+}
+
+fn outcome(rt: &impl Abort, alloc: Global, piece: &[u8]) -> Answer {
+    let begins = begins_piece(piece);
+    assert!(rt; begins);
+    match read_statement(alloc, piece, 1, 1) {
+        Ok(_) => Answer::Read,
+        Err(ReadRefused::Syntax(line, column)) => Answer::Syntax(line, column),
+        Err(ReadRefused::DuplicateRule(_)) => Answer::Duplicate,
+        Err(ReadRefused::Limit(which)) => Answer::Limit(which),
+        Err(ReadRefused::NotText) => Answer::NotText,
+        Err(ReadRefused::Memory) => Answer::Memory,
+    }
+}
+
+/// Puts `part` so many times at the end.
+fn repeat(text: &mut Vec<u8>, part: &[u8], count: usize) -> Result<(), AllocError> {
+    for _ in 0..count {
+        text.extend_from_slice(part)?;
+    }
+    Ok(())
+}
+
+/// A statement by the length of its first name, the depth and the further arguments of its right side, what follows
+/// that, how often more rules follow, and its size.
+#[derive(Clone, Copy)]
+struct Case {
+    name: usize,
+    depth: usize,
+    arguments: usize,
+    after: &'static [u8],
+    rules: usize,
+    size: &'static [u8],
+    wanted: Answer,
+}
+
+impl Case {
+    fn text(&self, alloc: Global) -> Result<Vec<u8>, AllocError> {
+        let mut text = Vec::from_slice(alloc, b"allstructs([S, {")?;
+        repeat(&mut text, b"x", self.name)?;
+        text.extend_from_slice(b" = ")?;
+        repeat(&mut text, b"Union(", self.depth)?;
+        text.push(b'Z')?;
+        repeat(&mut text, b", Z", self.arguments)?;
+        repeat(&mut text, b")", self.depth)?;
+        text.extend_from_slice(self.after)?;
+        repeat_rules(&mut text, self.rules)?;
+        text.extend_from_slice(b"}, unlabelled], size = ")?;
+        text.extend_from_slice(self.size)?;
+        text.extend_from_slice(b");")?;
+        Ok(text)
+    }
+}
+
+/// Puts so many rules of different names at the end.
+fn repeat_rules(text: &mut Vec<u8>, count: usize) -> Result<(), AllocError> {
+    for i in 0..count {
+        text.extend_from_slice(b", ")?;
+        repeat(text, b"R", i % 8 + 1)?;
+        repeat(text, b"r", i / 8)?;
+        text.extend_from_slice(b" = Z")?;
+    }
+    Ok(())
+}
+
+#[test]
+fn each_token_of_a_statement_is_looked_at(rt: HostRuntime) -> Result<(), Fail> {
+    let alloc = rt.alloc();
+    let last = TOKENS.len() - 1;
+    for (i, (start, end)) in TOKENS.iter().copied().enumerate() {
+        assert!(rt; start < end && end <= TEXT.len());
+        let column = start as u32 + 1;
+        if i > 0 {
+            let cut = outcome(&rt, alloc, &TEXT[..start]);
+            assert_eq!(rt; cut, Answer::Syntax(1, column));
+        }
+        let mut doubled = Vec::from_slice(alloc, &TEXT[..end])?;
+        doubled.push(b' ')?;
+        doubled.extend_from_slice(&TEXT[start..])?;
+        let second = Answer::Syntax(1, end as u32 + 2);
+        assert_eq!(rt; outcome(&rt, alloc, doubled.as_slice()), second);
+        let mut ended = Vec::from_slice(alloc, &TEXT[..start])?;
+        ended.push(b';')?;
+        ended.extend_from_slice(&TEXT[end..])?;
+        let wanted = if i == 0 {
+            Answer::Syntax(1, 2)
+        } else if i == last {
+            Answer::Read
+        } else {
+            Answer::Syntax(1, column)
+        };
+        assert_eq!(rt; outcome(&rt, alloc, ended.as_slice()), wanted);
+    }
+    Ok(())
+}
+
+#[test]
+fn faults_stand_where_the_table_says(rt: HostRuntime) -> Result<(), Fail> {
+    let rows: [(&[u8], Answer); 14] = [
+        (TEXT, Answer::Read),
+        (b";", Answer::Read),
+        (b";;", Answer::Syntax(1, 2)),
+        (b"x", Answer::Syntax(1, 1)),
+        (b"allstructs # so\n", Answer::Syntax(2, 1)),
+        (b"allstructs # so", Answer::Syntax(1, 16)),
+        (b"x \"a\t\";", Answer::Syntax(1, 1)),
+        (b"allstructs(\"a\t\";", Answer::Syntax(1, 14)),
+        (b"allstructs(\"ab\";", Answer::Syntax(1, 12)),
+        (b"allstructs(\"ab", Answer::Syntax(1, 15)),
+        (b"allstructs([\xc3\xa9;", Answer::Syntax(1, 13)),
+        (b"allstructs([S, {S = <", Answer::Syntax(1, 21)),
+        (b"allstructs([S : ", Answer::Syntax(1, 15)),
+        (b"c\xff;", Answer::NotText),
+    ];
+    for (piece, wanted) in rows {
+        assert_eq!(rt; outcome(&rt, rt.alloc(), piece), wanted);
+    }
+    Ok(())
+}
+
+const CASES: [Case; 18] = [
+    Case {
+        name: 1,
+        depth: 0,
+        arguments: 0,
+        after: b"",
+        rules: 0,
+        size: b"1",
+        wanted: Answer::Read,
+    },
+    Case {
+        name: 1,
+        depth: 0,
+        arguments: 0,
+        after: b"",
+        rules: 63,
+        size: b"1",
+        wanted: Answer::Read,
+    },
+    Case {
+        name: 1,
+        depth: 0,
+        arguments: 0,
+        after: b"",
+        rules: 64,
+        size: b"1",
+        wanted: Answer::Limit(Which::Rules),
+    },
+    Case {
+        name: 1,
+        depth: 1,
+        arguments: 126,
+        after: b"",
+        rules: 0,
+        size: b"1",
+        wanted: Answer::Read,
+    },
+    Case {
+        name: 1,
+        depth: 1,
+        arguments: 127,
+        after: b"",
+        rules: 0,
+        size: b"1",
+        wanted: Answer::Limit(Which::Nodes),
+    },
+    Case {
+        name: 1,
+        depth: 31,
+        arguments: 0,
+        after: b"",
+        rules: 0,
+        size: b"1",
+        wanted: Answer::Read,
+    },
+    Case {
+        name: 1,
+        depth: 32,
+        arguments: 0,
+        after: b"",
+        rules: 0,
+        size: b"1",
+        wanted: Answer::Limit(Which::Depth),
+    },
+    Case {
+        name: 32,
+        depth: 0,
+        arguments: 0,
+        after: b"",
+        rules: 0,
+        size: b"1",
+        wanted: Answer::Read,
+    },
+    Case {
+        name: 33,
+        depth: 0,
+        arguments: 0,
+        after: b"",
+        rules: 0,
+        size: b"1",
+        wanted: Answer::Limit(Which::Name),
+    },
+    Case {
+        name: 1,
+        depth: 0,
+        arguments: 0,
+        after: b"",
+        rules: 0,
+        size: b"0001000",
+        wanted: Answer::Read,
+    },
+    Case {
+        name: 1,
+        depth: 0,
+        arguments: 0,
+        after: b"",
+        rules: 0,
+        size: b"1001",
+        wanted: Answer::Limit(Which::Size),
+    },
+    Case {
+        name: 1,
+        depth: 0,
+        arguments: 0,
+        after: b"",
+        rules: 0,
+        size: b"340282366920938463463374607431768211456",
+        wanted: Answer::Limit(Which::Number),
+    },
+    Case {
+        name: 1,
+        depth: 0,
+        arguments: 0,
+        after: b", x = Z",
+        rules: 0,
+        size: b"1",
+        wanted: Answer::Duplicate,
+    },
+    Case {
+        name: 1,
+        depth: 0,
+        arguments: 0,
+        after: b", x Z",
+        rules: 0,
+        size: b"1",
+        wanted: Answer::Duplicate,
+    },
+    Case {
+        name: 1,
+        depth: 0,
+        arguments: 0,
+        after: b" x",
+        rules: 0,
+        size: b"1001",
+        wanted: Answer::Syntax(1, 23),
+    },
+    Case {
+        name: 1,
+        depth: 0,
+        arguments: 0,
+        after: b"",
+        rules: 0,
+        size: b"1001 1",
+        wanted: Answer::Limit(Which::Size),
+    },
+    Case {
+        name: 1,
+        depth: 0,
+        arguments: 0,
+        after: b", (",
+        rules: 0,
+        size: b"340282366920938463463374607431768211456",
+        wanted: Answer::Syntax(1, 24),
+    },
+    Case {
+        name: 33,
+        depth: 0,
+        arguments: 0,
+        after: b", (",
+        rules: 0,
+        size: b"1",
+        wanted: Answer::Limit(Which::Name),
+    },
+];
+
+#[test]
+fn limits_are_tested_in_order(rt: HostRuntime) -> Result<(), Fail> {
+    for case in CASES {
+        let text = case.text(rt.alloc())?;
+        assert_eq!(rt; outcome(&rt, rt.alloc(), text.as_slice()), case.wanted);
+    }
+    Ok(())
+}
+
+#[test]
+fn a_piece_has_at_most_65536_bytes(rt: HostRuntime) -> Result<(), Fail> {
+    let mut piece = Vec::from_slice(rt.alloc(), b";")?;
+    repeat(&mut piece, b" ", 65535)?;
+    assert_eq!(rt; outcome(&rt, rt.alloc(), piece.as_slice()), Answer::Read);
+    piece.push(b' ')?;
+    let wanted = Answer::Limit(Which::Statement);
+    assert_eq!(rt; outcome(&rt, rt.alloc(), piece.as_slice()), wanted);
+    Ok(())
+}
+
+#[test]
+fn a_statement_is_what_its_piece_says(rt: HostRuntime) -> Result<(), Fail> {
+    let script =
+        b"# one\n allstructs([S, {S = Prod(A, Z), A = Epsilon}, unlabelled], size = 3); x := 1:";
+    assert_eq!(rt; first_piece(script), Some((7, 76)));
+    assert_eq!(rt; first_piece(&script[76..]), Some((1, 8)));
+    assert_eq!(rt; first_piece(b" # no end;"), None);
+    let piece = &script[7..76];
+    assert!(rt; begins_piece(piece));
+    let statement = read_statement(rt.alloc(), piece, 1, 1)?;
+    assert!(rt; !statement.quiet);
+    let Form::List(
+        Job::Grammar(ClassRef::Written(symbol, RulesRef::Written(spec), universe), size),
+    ) = &statement.form
+    else {
+        panic!(rt; "no list");
+    };
+    assert_eq!(rt; symbol.as_slice(), b"S".as_slice());
+    assert_eq!(rt; *universe, Universe::Unlabelled);
+    assert_eq!(rt; *size, 3);
+    assert_eq!(rt; spec.rules(), 2);
+    assert_eq!(rt; spec.name(2).as_slice(), b"A".as_slice());
+    assert!(rt; matches!(spec.right(2).shape, ExprShape::Epsilon));
+    let ExprShape::Prod(parts) = &spec.right(1).shape else {
+        panic!(rt; "no product");
+    };
+    assert_eq!(rt; parts.len(), 2);
+    assert!(rt; matches!(parts.at(1).shape, ExprShape::Atom));
+    Ok(())
+}

@@ -1,0 +1,1 @@
+allstructs([S, {S = Union(Z, Z)}, unlabelled], size = 1);

@@ -1,0 +1,1 @@
+allstructs([B, {B = Union(Z, Prod(B, B))}, unlabelled], size = 3);

@@ -1,0 +1,1 @@
+allstructs([S, {S = Union(Z, T)}, unlabelled], size = 1);

@@ -1,0 +1,1 @@
+allstructs([S, {S = Z}, unlabelled], size = 1)
