@@ -1,17 +1,13 @@
 -- Laws that the listing code rests on.
-use Rattle.std.proofs.Common.{◌≡◌, ◌-◌, Some, drop, drop-cons, ℕ, zero, suc, ◌+◌, ◌<◌, ◌≤◌, List, [], ◌∷◌, ◌++◌, length, take, get_or, map, replicate, nat_eq, cond, if◌then◌else◌, refl, sym, ap, ◌∙◌, arith, append-nil, append_assoc, add-one, length-append}
+use Rattle.std.proofs.Common.{◌≡◌, ◌-◌, drop, drop-cons, ℕ, zero, suc, ◌+◌, ◌<◌, ◌≤◌, List, [], ◌∷◌, ◌++◌, length, take, get_or, map, replicate, nat_eq, if◌then◌else◌, refl, sym, ap, ◌∙◌, arith, append_assoc, add-one}
 use Rattle.std.specs.List.{flat_map, range_with_len}
-use Rattle.std.proofs.lemmas.Grind.{flat_map-append}
-use Rattle.std.proofs.lemmas.List.{take_more, take_all}
+use Rattle.std.proofs.lemmas.List.{take_all}
 use Rattle.std.proofs.lemmas.Bool.Decides.{nat_tests}
-use Rattle.std.specs.Option.{option_map_or}
-use Rattle.spec_syntax.specs.Expression.{Expressions, Expression, Epsilon, Atom as AtomClass, Name, Union, Prod, Many, nodes, nodes_of_all, expressions_of, preorder, preorder_of_all}
+use Rattle.spec_syntax.specs.Expression.{Expressions, Expression, Epsilon, Atom as AtomClass, Name, Union, Prod, Many, nodes, expressions_of}
 use Rattle.struct_model.specs.Structure.{Structure, Eps, Atom, Alt}
-use Rattle.listing_laws.specs.Lister.{Names, list_epsilon, list_atom, alternatives, list_each, list_components, each_before, list_with, named, names_to_depth, lists_to_depth}
+use Rattle.listing_laws.specs.Lister.{Names, list_epsilon, list_atom, alternatives, list_each, list_components, each_before, list_with}
 use Rattle.listing_laws.proofs.CallerLemmas.{sizes-more}
 use Rattle.listing_laws.specs.BySize.{list_of_size, components_of_size}
-use Rattle.spec_syntax.specs.Rules.{symbol, right_side}
-use Rattle.spec_syntax.specs.Grammar.{Grammar}
 
 -- an expression has a node
 pub nodes-positive : (e : Expression) → 1 ≤ nodes e

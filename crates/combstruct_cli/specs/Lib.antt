@@ -3,3 +3,5 @@ pub mod Unlabelled
 pub mod Names
 pub mod Refusals
 pub mod Outcome
+pub mod Answer
+pub mod Laws

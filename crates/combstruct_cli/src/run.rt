@@ -1,9 +1,22 @@
 //! A run: words and a script go in, and the answer goes out.
-ghost use Rattle.std.specs.Prelude.{◌≡◌, ◌⊎◌, ◌≢◌, ℕ, ◌+◌, ◌≤◌, ◌<◌, ◌++◌, [], List, length, take, drop, IsTrue, OnOk, IfOk, IfErr, ◌↔◌};
+ghost use Rattle.std.specs.Prelude.{Result, Ok, ◌≡◌, ◌⊎◌, ◌≢◌, ℕ, ◌+◌, ◌≤◌, ◌<◌, ◌++◌, [], List, Option, Some, length, take, slice_range, codes, replicate, IsTrue, IfOk, OnOk, OnErr};
+ghost use Rattle.std.specs.Io.KnownBytes.{Appends, IsAtEnd};
+ghost use Rattle.comb_io.specs.Parts.{AppendsProperPrefix};
 ghost use Rattle.comb_io.specs.Faults.{Rose};
-ghost use Rattle.combstruct_cli.specs.Outcome.{HasErrCause, HasRunCause};
-ghost use Rattle.spec_reader.specs.Cutting.{begins_piece};
+ghost use Rattle.spec_syntax.specs.declared.statement.Statement.{Statement};
+ghost use Rattle.spec_reader.specs.declared.refusal.ReadRefused.{ReadRefused};
+ghost use Rattle.spec_syntax.specs.Expression.{Name as NameClass};
+ghost use Rattle.spec_reader.specs.Cutting.{begins_piece, first_piece_of};
 ghost use Rattle.spec_reader.specs.Places.{place_behind};
+ghost use Rattle.spec_reader.specs.Reading.{Answers};
+ghost use Rattle.struct_model.specs.Structure.{parts_of};
+ghost use Rattle.struct_model.specs.Text.{maple_parts};
+ghost use Rattle.listing_laws.specs.Later.{are_plain};
+ghost use Rattle.listing_laws.specs.Lister.{lists_to_depth};
+ghost use Rattle.combstruct_cli.specs.Unlabelled.{unlabelled};
+ghost use Rattle.combstruct_cli.specs.Answer.{Effect, Answer, refusing, refusing_long, refusal_of, effect_of_listing, effect, effect_of_piece, effect_after, refusing_second, RunsPiece, RunsFirst, IsAnswer, is_plain_form};
+ghost use Rattle.combstruct_cli.specs.Outcome.{HasErrCause, HasRunCause, Makes, Ends, Gives, DidNotRise, either};
+ghost use Rattle.combstruct_cli.specs.Laws.{SomeAnswer, OneAnswer};
 
 use crate::input::{InputFault, MOST_BYTES, read_script};
 use crate::list::list_name;
@@ -40,8 +53,10 @@ enum Outcome {
 }
 
 impl Outcome {
-    /// Whether one of two pieces was refused.
-    fn or(self, other: Outcome) -> Outcome {
+    /// Whether one of two parts was refused.
+    fn or(self, other: Outcome) -> Outcome
+        ensures { result ≡ either self other }
+    {
         match self {
             Outcome::Done => other,
             Outcome::Refused => Outcome::Refused,
@@ -89,7 +104,9 @@ const USAGE: &str =
 const START: Place = Place { line: 1, column: 1 };
 
 /// The line that answers an `allstructs` statement: the texts of the structures in brackets.
-fn listing_line(alloc: Global, symbol: &Name, spec: &Spec, size: u32) -> Result<Bytes, AllocError> {
+fn listing_line(alloc: Global, symbol: &Name, spec: &Spec, size: u32) -> Result<Bytes, AllocError>
+    ensures { IfOk result (λ text. text ≡ codes "[" ++ maple_parts spec.now (parts_of (lists_to_depth (unlabelled spec.now) (length spec.now) (NameClass symbol.now) (replicate size 0))) ++ codes "]\n") }
+{
     let list = list_name(alloc, spec, spec.rules(), symbol, size)?;
     let mut text = Bytes::new(alloc);
     text.extend_from_slice(b"[")?;
@@ -109,6 +126,18 @@ fn place_of(script: &[u8], at: usize) -> Place
     behind(START, &script[..at])
 }
 
+/// Writes a text whole.
+fn write_text<O: Sink>(sink: &mut O, text: &[u8]) -> Result<(), RunFault>
+    ensures whole { OnOk result (Appends (O.written sink.old) (O.written sink.new) text.now) }
+    ensures part { OnErr result (AppendsProperPrefix (O.written sink.old) (O.written sink.new) text.now) }
+    ensures cause { HasErrCause (O.faults sink.old) (O.faults sink.new) result }
+{
+    match write_all(sink, text) {
+        Ok(()) => Ok(()),
+        Err(fault) => Err(RunFault::from(fault)),
+    }
+}
+
 /// Writes the line that tells a refusal.
 fn refuse<E: Sink>(
     alloc: Global,
@@ -117,15 +146,21 @@ fn refuse<E: Sink>(
     err: &mut E,
 ) -> Result<Outcome, RunFault>
     ensures cause { HasErrCause (E.faults err.old) (E.faults err.new) result }
+    ensures makes { (out : Option (List ℕ)) → Makes out out (E.written err.old) (E.written err.new) (refusing line refusal.now) result }
+    ensures refused { IfOk result (λ outcome. outcome ≡ Outcome.Refused) }
 {
     let mut text = Bytes::new(alloc);
     push_refusal(line, refusal, &mut text)?;
-    write_all(err, text.as_slice())?;
-    Ok(Outcome::Refused)
+    match write_text(err, text.as_slice()) {
+        Ok(()) => Ok(Outcome::Refused),
+        Err(fault) => Err(fault),
+    }
 }
 
 /// Why a listing of the class is refused, if it is.
-fn refusal_of(alloc: Global, symbol: &Name, spec: &Spec) -> Result<Option<Refusal>, AllocError> {
+fn refusal_of(alloc: Global, symbol: &Name, spec: &Spec) -> Result<Option<Refusal>, AllocError>
+    ensures { IfOk result (λ refusal. refusal ≡ refusal_of spec.now symbol.now) }
+{
     if let Some(name) = undefined_name(spec, symbol) {
         let name = Name::from_slice(alloc, name.as_slice())?;
         return Ok(Some(Refusal::Undefined(name)));
@@ -147,14 +182,18 @@ fn run_listing<O: Sink, E: Sink>(
     out: &mut O,
     err: &mut E,
 ) -> Result<Outcome, RunFault>
+    requires plain { IsTrue (are_plain spec.now) }
     ensures cause { HasRunCause (O.faults out.old) (O.faults out.new) (E.faults err.old) (E.faults err.new) result }
+    ensures makes { Makes (O.written out.old) (O.written out.new) (E.written err.old) (E.written err.new) (effect_of_listing spec.now symbol.now size line) result }
 {
     if let Some(refusal) = refusal_of(alloc, symbol, spec)? {
         return refuse(alloc, line, &refusal, err);
     }
     let text = listing_line(alloc, symbol, spec, size)?;
-    write_all(out, text.as_slice())?;
-    Ok(Outcome::Done)
+    match write_text(out, text.as_slice()) {
+        Ok(()) => Ok(Outcome::Done),
+        Err(fault) => Err(fault),
+    }
 }
 
 /// Runs a statement, which begins in this line.
@@ -165,7 +204,9 @@ fn run_statement<O: Sink, E: Sink>(
     out: &mut O,
     err: &mut E,
 ) -> Result<Outcome, RunFault>
+    requires plain { IsTrue (is_plain_form statement.now.form) }
     ensures cause { HasRunCause (O.faults out.old) (O.faults out.new) (E.faults err.old) (E.faults err.new) result }
+    ensures makes { Makes (O.written out.old) (O.written out.new) (E.written err.old) (E.written err.new) (effect statement.now.form line) result }
 {
     match &statement.form {
         Form::List(Job::Grammar(ClassRef::Written(symbol, RulesRef::Written(spec), _), size)) => {
@@ -190,12 +231,33 @@ fn run_piece<O: Sink, E: Sink>(
     requires column_low { 1 ≤ place.column }
     requires column_high { place.column ≤ 16777217 }
     ensures cause { HasRunCause (O.faults out.old) (O.faults out.new) (E.faults err.old) (E.faults err.new) result }
+    ensures makes { (reading : Result Statement ReadRefused) → Answers place piece.now reading
+        → Makes (O.written out.old) (O.written out.new) (E.written err.old) (E.written err.new) (effect_of_piece reading place.line) result }
 {
     match read_statement(alloc, piece, place.line, place.column) {
         Ok(statement) => run_statement(alloc, &statement, place.line, out, err),
-        Err(ReadRefused::Memory) => Err(RunFault::Memory),
-        Err(refused) => refuse(alloc, place.line, &Refusal::Read(refused), err),
+        Err(refused) => refuse_reading(alloc, place.line, refused, err),
     }
+}
+
+/// Refuses a piece that isn't read, unless memory is wanting.
+fn refuse_reading<E: Sink>(
+    alloc: Global,
+    line: u32,
+    refused: ReadRefused,
+    err: &mut E,
+) -> Result<Outcome, RunFault>
+    ensures cause { HasErrCause (E.faults err.old) (E.faults err.new) result }
+    ensures memory { refused ≡ ReadRefused.Memory → (whole : Effect) (out : Option (List ℕ))
+        → Makes out out (E.written err.old) (E.written err.new) whole result }
+    ensures makes { refused ≢ ReadRefused.Memory → (out : Option (List ℕ))
+        → Makes out out (E.written err.old) (E.written err.new) (refusing line (Refusal.Read refused)) result }
+{
+    if let ReadRefused::Memory = refused {
+        return Err(RunFault::Memory);
+    }
+    let refusal = Refusal::Read(refused);
+    refuse(alloc, line, &refusal, err)
 }
 
 /// Refuses what follows the first piece: a second piece, or a script that is too long.
@@ -208,28 +270,77 @@ fn run_rest<E: Sink>(
     requires within { end ≤ length script.now }
     requires bound { length script.now ≤ MOST_BYTES + 1 }
     ensures cause { HasErrCause (E.faults err.old) (E.faults err.new) result }
+    ensures makes { (out : Option (List ℕ)) → Makes out out (E.written err.old) (E.written err.new) (effect_after script.now end) result }
+    ensures done { result ≡ Ok Outcome.Done → length script.now ≤ MOST_BYTES }
 {
     match first_piece(&script[end..]) {
-        Some((gap, _)) if end + gap < MOST_BYTES => {
-            let place = place_of(script, end + gap);
-            let refused = ReadRefused::Syntax(place.line, place.column);
-            refuse(alloc, place.line, &Refusal::Read(refused), err)
-        }
-        _ => refuse_long(alloc, script, err),
+        None => refuse_long(alloc, script, err),
+        Some((gap, _)) => refuse_second(alloc, script, end + gap, err),
     }
+}
+
+/// Refuses a second piece, which begins at this place, or a script that is too long.
+fn refuse_second<E: Sink>(
+    alloc: Global,
+    script: &[u8],
+    at: usize,
+    err: &mut E,
+) -> Result<Outcome, RunFault>
+    requires within { at ≤ length script.now }
+    requires bound { length script.now ≤ MOST_BYTES + 1 }
+    ensures cause { HasErrCause (E.faults err.old) (E.faults err.new) result }
+    ensures makes { (out : Option (List ℕ)) → Makes out out (E.written err.old) (E.written err.new) (refusing_second script.now at) result }
+    ensures done { result ≡ Ok Outcome.Done → length script.now ≤ MOST_BYTES }
+{
+    if at >= MOST_BYTES {
+        return refuse_long(alloc, script, err);
+    }
+    let place = place_of(script, at);
+    let refusal = Refusal::Read(ReadRefused::Syntax(place.line, place.column));
+    refuse(alloc, place.line, &refusal, err)
 }
 
 /// Refuses a script that is too long, with the line of the first byte that is too many.
 fn refuse_long<E: Sink>(alloc: Global, script: &[u8], err: &mut E) -> Result<Outcome, RunFault>
     requires { length script.now ≤ MOST_BYTES + 1 }
     ensures cause { HasErrCause (E.faults err.old) (E.faults err.new) result }
+    ensures makes { (out : Option (List ℕ)) → Makes out out (E.written err.old) (E.written err.new) (refusing_long script.now) result }
+    ensures done { result ≡ Ok Outcome.Done → length script.now ≤ MOST_BYTES }
 {
     if script.len() <= MOST_BYTES {
         return Ok(Outcome::Done);
     }
     let place = place_of(script, MOST_BYTES);
-    let refused = ReadRefused::Limit(Which::Script);
-    refuse(alloc, place.line, &Refusal::Read(refused), err)
+    let refusal = Refusal::Read(ReadRefused::Limit(Which::Script));
+    refuse(alloc, place.line, &refusal, err)
+}
+
+/// Runs the first piece of a script, from `start` to `end`, and refuses what follows it.
+fn run_first<O: Sink, E: Sink>(
+    alloc: Global,
+    script: &[u8],
+    start: usize,
+    end: usize,
+    out: &mut O,
+    err: &mut E,
+) -> Result<Outcome, RunFault>
+    requires bound { length script.now ≤ MOST_BYTES + 1 }
+    requires piece { (start < end) × (end ≤ length script.now) × (end ≤ MOST_BYTES) }
+    requires begins { IsTrue (begins_piece (slice_range script.now start end)) }
+    ensures cause { HasRunCause (O.faults out.old) (O.faults out.new) (E.faults err.old) (E.faults err.new) result }
+    ensures makes { (whole : Effect) → RunsPiece script.now start end whole
+        → Makes (O.written out.old) (O.written out.new) (E.written err.old) (E.written err.new) whole result }
+    ensures done { result ≡ Ok Outcome.Done → length script.now ≤ MOST_BYTES }
+{
+    let place = place_of(script, start);
+    let outcome = match run_piece(alloc, &script[start..end], place, out, err) {
+        Ok(outcome) => outcome,
+        Err(fault) => return Err(fault),
+    };
+    match run_rest(alloc, script, end, err) {
+        Ok(rest) => Ok(outcome.or(rest)),
+        Err(fault) => Err(fault),
+    }
 }
 
 /// Runs a script, of which one byte more than a script may have is enough.
@@ -241,16 +352,24 @@ fn run_script<O: Sink, E: Sink>(
 ) -> Result<Outcome, RunFault>
     requires { length script.now ≤ MOST_BYTES + 1 }
     ensures cause { HasRunCause (O.faults out.old) (O.faults out.new) (E.faults err.old) (E.faults err.new) result }
+    ensures makes { (whole : Effect) → RunsFirst script.now (first_piece_of script.now) whole
+        → Makes (O.written out.old) (O.written out.new) (E.written err.old) (E.written err.new) whole result }
+    ensures done { result ≡ Ok Outcome.Done → length script.now ≤ MOST_BYTES }
 {
-    match first_piece(script) {
-        Some((start, end)) if end <= MOST_BYTES => {
-            let place = place_of(script, start);
-            let outcome = run_piece(alloc, &script[start..end], place, out, err)?;
-            Ok(outcome.or(run_rest(alloc, script, end, err)?))
-        }
-        _ => refuse_long(alloc, script, err),
+    let Some((start, end)) = first_piece(script) else {
+        return refuse_long(alloc, script, err);
+    };
+    if end > MOST_BYTES {
+        return refuse_long(alloc, script, err);
     }
+    run_first(alloc, script, start, end, out, err)
 }
+
+/// To these words and each script there is an answer, and only one.
+pub fn each_script_has_one_answer(_words: &Vec<String>)
+    ensures some { SomeAnswer _words.now.items }
+    ensures one { OneAnswer _words.now.items }
+{}
 
 /// Runs the script that `input` gives, and writes its answer to `out` and `err`.
 ///
@@ -263,6 +382,14 @@ pub fn run<S: Source, F: Shelf, O: Sink, E: Sink>(
     out: &mut O,
     err: &mut E,
 ) -> Status
+    ensures answer { (given : List ℕ) → S.left input.old ≡ Some given → (answer : Answer) → IsAnswer words.now.items given answer
+        → Ends (O.written out.old) (O.written out.new) (E.written err.old) (E.written err.new) answer result }
+    ensures complete { DidNotRise (S.faults input.old) (S.faults input.new) → DidNotRise (O.faults out.old) (O.faults out.new) → DidNotRise (E.faults err.old) (E.faults err.new)
+        → (given : List ℕ) → S.left input.old ≡ Some given → (answer : Answer) → IsAnswer words.now.items given answer
+        → Gives (O.written out.old) (O.written out.new) (E.written err.old) (E.written err.new) answer result ⊎ (result ≡ Status.Memory) }
+    ensures untouched { result ≡ Status.Input → (O.written out.new ≡ O.written out.old) × (E.written err.new ≡ E.written err.old) }
+    ensures unread { words.now.items ≢ [] → S.left input.new ≡ S.left input.old }
+    ensures at_end { result ≡ Status.Well → IsAtEnd (S.left input.new) }
     ensures words { result ≡ Status.Words → words.now.items ≢ [] }
     ensures no_words { words.now.items ≢ [] → (result ≡ Status.Words) ⊎ (result ≡ Status.Output) ⊎ (result ≡ Status.Memory) }
     ensures input { result ≡ Status.Input → Rose (S.faults input.old) (S.faults input.new) }
@@ -292,31 +419,81 @@ pub fn run<S: Source, F: Shelf, O: Sink, E: Sink>(
 #[cfg(test)]
 mod tests {
     use super::*;
-    use comb_io::{SureShelf, SureSink, SureSource};
+    use comb_io::{MemSink, MemSource, SureShelf, SureSink, SureSource};
+    use std::process::Abort;
     use std::test::Fail;
 
+    /// How many bytes a read gives.
+    const SIZES: [usize; 3] = [1, 7, 65_536];
+
+    /// A script and its whole answer.
+    #[derive(Clone, Copy)]
+    struct Case {
+        script: &'static str,
+        out: &'static str,
+        err: &'static str,
+        status: Status,
+    }
+
+    const LISTED: Case = Case {
+        script: "allstructs([S, {S = Prod(A, Union(Z, Z)), A = Union(Z, Prod(Z, Z))}, unlabelled], size = 3);",
+        out: "[Prod(Prod(Z, Z), Z), Prod(Prod(Z, Z), Z)]\n",
+        err: "",
+        status: Status::Well,
+    };
+
+    const UNDEFINED: Case = Case {
+        script: "allstructs([S, {S = Union(Z, T)}, unlabelled], size = 1);",
+        out: "",
+        err: "line 1: error 20: no rule for T\n",
+        status: Status::SomeRefused,
+    };
+
+    const SECOND_PIECE: Case = Case {
+        script: "allstructs([S, {S = Z}, unlabelled], size = 1);\n;",
+        out: "[S]\n",
+        err: "line 2: error 1: syntax at line 2 column 1\n",
+        status: Status::SomeRefused,
+    };
+
     /// Runs a script without words.
-    fn outcome_of(alloc: Global, script: &str, out: &mut SureSink, err: &mut SureSink) -> Status {
-        let mut input = SureSource::new(script.as_bytes());
+    fn outcome_of<S: Source>(
+        alloc: Global,
+        input: &mut S,
+        out: &mut MemSink,
+        err: &mut MemSink,
+    ) -> Status {
         let words = Vec::new(alloc);
-        run(
-            alloc,
-            &words,
-            &mut input,
-            &mut SureShelf::new(&[]),
-            out,
-            err,
-        )
+        run(alloc, &words, input, &mut SureShelf::new(&[]), out, err)
+    }
+
+    /// Sees that a script has this answer, however many bytes a read gives.
+    fn sees(
+        rt: &impl Abort,
+        alloc: Global,
+        script: &str,
+        answer: &str,
+        refusal: &str,
+        ending: Status,
+    ) -> Result<(), Fail> {
+        for most in SIZES {
+            assert!(rt; most > 0);
+            let mut input = MemSource::new(alloc, script.as_bytes(), most, &[])?;
+            let mut out = MemSink::new(alloc, 65_536, &[])?;
+            let mut err = MemSink::new(alloc, 65_536, &[])?;
+            let status = outcome_of(alloc, &mut input, &mut out, &mut err);
+            assert_eq!(rt; status, ending, "{script} by {most}");
+            assert_eq!(rt; out.bytes(), answer.as_bytes(), "{script} by {most}");
+            assert_eq!(rt; err.bytes(), refusal.as_bytes(), "{script} by {most}");
+        }
+        Ok(())
     }
 
     #[test]
     fn listings(rt: HostRuntime) -> Result<(), Fail> {
         let alloc = rt.alloc();
         let cases = [
-            (
-                "allstructs([S, {S = Prod(A, Union(Z, Z)), A = Union(Z, Prod(Z, Z))}, unlabelled], size = 3);",
-                "[Prod(Prod(Z, Z), Z), Prod(Prod(Z, Z), Z)]\n",
-            ),
+            (LISTED.script, LISTED.out),
             (
                 "allstructs([S, {S = Union(Z, Z)}, unlabelled], size = 1);",
                 "[Z, Z]\n",
@@ -335,12 +512,7 @@ mod tests {
             ),
         ];
         for (script, answer) in cases {
-            let mut out = SureSink::new(alloc);
-            let mut err = SureSink::new(alloc);
-            let status = outcome_of(alloc, script, &mut out, &mut err);
-            assert_eq!(rt; status, Status::Well);
-            assert_eq!(rt; out.bytes(), answer.as_bytes());
-            assert_eq!(rt; err.bytes(), b"".as_slice());
+            sees(&rt, alloc, script, answer, "", Status::Well)?;
         }
         Ok(())
     }
@@ -365,11 +537,7 @@ mod tests {
                 "line 1: error 1: syntax at line 1 column 1\n",
             ),
             (";;", "", "line 1: error 1: syntax at line 1 column 2\n"),
-            (
-                "allstructs([S, {S = Z}, unlabelled], size = 1);\n;",
-                "[S]\n",
-                "line 2: error 1: syntax at line 2 column 1\n",
-            ),
+            (SECOND_PIECE.script, SECOND_PIECE.out, SECOND_PIECE.err),
             (
                 "allstructs([S, {S = Z, S = Z}, unlabelled], size = 1);",
                 "",
@@ -382,12 +550,7 @@ mod tests {
             ),
         ];
         for (script, answer, refusal) in cases {
-            let mut out = SureSink::new(alloc);
-            let mut err = SureSink::new(alloc);
-            let status = outcome_of(alloc, script, &mut out, &mut err);
-            assert_eq!(rt; status, Status::SomeRefused);
-            assert_eq!(rt; out.bytes(), answer.as_bytes());
-            assert_eq!(rt; err.bytes(), refusal.as_bytes());
+            sees(&rt, alloc, script, answer, refusal, Status::SomeRefused)?;
         }
         Ok(())
     }
@@ -396,12 +559,140 @@ mod tests {
     fn nothing_to_run(rt: HostRuntime) -> Result<(), Fail> {
         let alloc = rt.alloc();
         for script in ["", "# a comment", ";"] {
-            let mut out = SureSink::new(alloc);
-            let mut err = SureSink::new(alloc);
-            let status = outcome_of(alloc, script, &mut out, &mut err);
-            assert_eq!(rt; status, Status::Well);
+            sees(&rt, alloc, script, "", "", Status::Well)?;
+        }
+        Ok(())
+    }
+
+    /// Where a script that ends after `length` bytes is at fault: at the word that is cut, or at
+    /// its end.
+    fn fault_of_cut(words: &[(usize, usize)], length: usize) -> usize
+        ensures { result ≤ length }
+    {
+        for (start, end) in words {
+            if *start <= length && length < *end {
+                return *start;
+            }
+        }
+        length
+    }
+
+    #[test]
+    fn cut_scripts(rt: HostRuntime) -> Result<(), Fail> {
+        let alloc = rt.alloc();
+        let cases = [
+            (LISTED, [(0, 10), (69, 79), (82, 86)]),
+            (UNDEFINED, [(0, 10), (34, 44), (47, 51)]),
+        ];
+        for (case, words) in cases {
+            sees(&rt, alloc, "", "", "", Status::Well)?;
+            for (length, _) in case.script.char_indices().skip(1) {
+                let column = fault_of_cut(&words, length) + 1;
+                let refusal = format!(in alloc;
+                    "line 1: error 1: syntax at line 1 column {column}\n"
+                )?;
+                let cut = &case.script[..length];
+                sees(&rt, alloc, cut, "", refusal.as_str(), Status::SomeRefused)?;
+            }
+            sees(&rt, alloc, case.script, case.out, case.err, case.status)?;
+        }
+        Ok(())
+    }
+
+    /// Lets each read fail in turn, and answers how many there are.
+    fn fail_reads(rt: &impl Abort, alloc: Global, case: Case, most: usize) -> Result<u64, Fail> {
+        assert!(rt; most > 0);
+        for number in 0..u64::MAX {
+            let mut input = MemSource::new(alloc, case.script.as_bytes(), most, &[number])?;
+            let mut out = MemSink::new(alloc, 65_536, &[])?;
+            let mut err = MemSink::new(alloc, 65_536, &[])?;
+            let status = outcome_of(alloc, &mut input, &mut out, &mut err);
+            if status != Status::Input {
+                assert_eq!(rt; status, case.status);
+                assert_eq!(rt; out.bytes(), case.out.as_bytes());
+                assert_eq!(rt; err.bytes(), case.err.as_bytes());
+                return Ok(number);
+            }
             assert_eq!(rt; out.bytes(), b"".as_slice());
             assert_eq!(rt; err.bytes(), b"".as_slice());
+        }
+        Ok(u64::MAX)
+    }
+
+    #[test]
+    fn failing_reads(rt: HostRuntime) -> Result<(), Fail> {
+        let alloc = rt.alloc();
+        let cases = [(LISTED, [93, 15, 2]), (UNDEFINED, [58, 10, 2])];
+        for (case, counts) in cases {
+            for (most, count) in SIZES.into_iter().zip(counts) {
+                assert_eq!(rt; fail_reads(&rt, alloc, case, most)?, count);
+            }
+        }
+        Ok(())
+    }
+
+    /// Which sink fails.
+    #[derive(Clone, Copy, PartialEq, Eq, Debug)]
+    enum Failing {
+        Out,
+        Err,
+    }
+
+    /// Sees that a sink holds the beginning of a text, and not all of it.
+    fn sees_part(rt: &impl Abort, held: &[u8], whole: &str) {
+        let whole = whole.as_bytes();
+        assert!(rt; held.len() < whole.len());
+        assert_eq!(rt; held, &whole[..held.len()]);
+    }
+
+    /// Lets each write of a sink fail in turn, and answers how many there are.
+    fn fail_writes(
+        rt: &impl Abort,
+        alloc: Global,
+        case: Case,
+        most: usize,
+        failing: Failing,
+    ) -> Result<u64, Fail> {
+        assert!(rt; most > 0);
+        for number in 0..u64::MAX {
+            let mut input = SureSource::new(case.script.as_bytes());
+            let mut sound = MemSink::new(alloc, most, &[])?;
+            let mut faulty = MemSink::new(alloc, most, &[number])?;
+            let status = match failing {
+                Failing::Out => outcome_of(alloc, &mut input, &mut faulty, &mut sound),
+                Failing::Err => outcome_of(alloc, &mut input, &mut sound, &mut faulty),
+            };
+            let (other, whole) = match failing {
+                Failing::Out => (case.err, case.out),
+                Failing::Err => (case.out, case.err),
+            };
+            if status != Status::Output {
+                assert_eq!(rt; status, case.status);
+                assert_eq!(rt; faulty.bytes(), whole.as_bytes());
+                assert_eq!(rt; sound.bytes(), other.as_bytes());
+                return Ok(number);
+            }
+            sees_part(rt, faulty.bytes(), whole);
+            // All of out is written before err.
+            match failing {
+                Failing::Out => assert_eq!(rt; sound.bytes(), b"".as_slice()),
+                Failing::Err => assert_eq!(rt; sound.bytes(), other.as_bytes()),
+            }
+        }
+        Ok(u64::MAX)
+    }
+
+    #[test]
+    fn failing_writes(rt: HostRuntime) -> Result<(), Fail> {
+        let alloc = rt.alloc();
+        for case in [LISTED, UNDEFINED, SECOND_PIECE] {
+            for most in [1, 8] {
+                assert!(rt; most > 0);
+                let writes = fail_writes(&rt, alloc, case, most, Failing::Out)?;
+                assert_eq!(rt; writes, case.out.len().div_ceil(most) as u64);
+                let writes = fail_writes(&rt, alloc, case, most, Failing::Err)?;
+                assert_eq!(rt; writes, case.err.len().div_ceil(most) as u64);
+            }
         }
         Ok(())
     }

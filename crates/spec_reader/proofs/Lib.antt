@@ -1,4 +1,3 @@
-pub mod CutLemmas
 pub mod TokenLemmas
 pub mod NumberLemmas
 pub mod DraftLemmas
@@ -6,3 +5,13 @@ pub mod LimitLemmas
 pub mod SoundLemmas
 pub mod SpecLemmas
 pub mod WordLemmas
+pub mod Walks
+pub mod TokenTests
+pub mod Productions
+pub mod TreeWalks
+pub mod SeenLemmas
+pub mod Built
+pub mod Verdict
+pub mod Agree
+pub mod Pieces
+pub mod Keeps

@@ -236,7 +236,8 @@ weighed role.RuleName t seen = omega arith
 weighed (role.ExprStart depth) t seen = refl
 weighed role.SizeNumber t seen = omega arith
 
-row-sound : (i : Item) (rest : List Item) (found : Option (List Item)) (row : List Item) (t : Token) (seen : Seen) (draft : Draft) → step i t ≡ found → found ≡ Some row
+-- the parts stay so over a token that an item takes
+pub row-sound : (i : Item) (rest : List Item) (found : Option (List Item)) (row : List Item) (t : Token) (seen : Seen) (draft : Draft) → step i t ≡ found → found ≡ Some row
     → reason_in seen (role_of i) t ≡ None → is_spelled t ≡ true → Sound (i ∷ rest) seen draft → Sound (row ++ rest) (seen_after (role_of i) t seen) (act i t draft)
 row-sound i rest found row t seen draft is fits none spelled sound =
     let passes = reason-none (reverse seen.names) seen.expressions (role_of i) t none in

@@ -1,10 +1,10 @@
 -- Laws of the tokens of a piece.
-use Rattle.std.proofs.Common.{◌≡◌, ℕ, zero, suc, ◌+◌, ◌-◌, ◌<◌, ◌≤◌, Bool, true, false, List, [], ◌∷◌, length, length-drop, drop, refl, sym, ap, ◌∙◌, arith, add-zero}
+use Rattle.std.proofs.Common.{◌≡◌, ℕ, zero, suc, ◌+◌, ◌-◌, ◌<◌, ◌≤◌, Bool, true, false, cond, not, slice_range, List, [], ◌∷◌, length, length-drop, take, drop, refl, sym, ap, ◌∙◌, arith, add-zero}
 use Rattle.std.proofs.lemmas.Bool.Decides.{nat_tests}
 use Rattle.std.proofs.lemmas.List.{drop-drop}
 use Rattle.std.proofs.Math.ListN.{drop_of_length-le}
 use Rattle.spec_reader.specs.declared.cut.Region.TheVariants.{Open, Comment}
-use Rattle.spec_reader.specs.Cutting.{gap_len, region_after, is_skipped}
+use Rattle.spec_reader.specs.Cutting.{begins_piece, is_end, piece_len, gap_len, region_after, is_skipped}
 use Rattle.spec_reader.specs.Tokens.{Token, tokens_from, front_of, front_at}
 
 -- the bytes of the token or the gap before are passed over
@@ -81,3 +81,24 @@ tokens_from-next piece from gap place len token is some token_is place_is len_is
     ∙ ap (λ bs. tokens_from 0 (from + gap) bs) same
     ∙ token-step (from + gap) text none longer long
     ∙ (λ i. record { token = sym token_is i; at = placed i } ∷ rest i)
+
+begins-front : (len : ℕ) (bs : List ℕ) → gap_len Open bs ≡ 0 → 0 < length bs → 0 < len → begins_piece (take len bs) ≡ true
+begins-front zero bs none some more = absurd (omega arith)
+begins-front (suc len) [] none some more = absurd (omega arith)
+begins-front (suc len) (b ∷ bs) none some more = ap not (no-gap (is_skipped Open b) b bs refl none)
+
+-- a piece begins behind the gap
+pub begins_piece-at : (script : List ℕ) (start len : ℕ) → start ≡ gap_len Open script → start < length script → 0 < len → begins_piece (slice_range script start (start + len)) ≡ true
+begins_piece-at script start len is some more =
+    let none : gap_len Open (drop start script) ≡ 0 = ap (λ n. gap_len Open (drop n script)) is ∙ gap-ends script in
+    let same : start + len - start ≡ len = omega arith in
+    ap (λ n. begins_piece (take n (drop start script))) same ∙ begins-front len (drop start script) none (omega (arith, length-drop start script)) more
+
+end-some : (ends : Bool) (n : ℕ) → 0 < cond ends 1 (suc n)
+end-some true n = omega arith
+end-some false n = omega arith
+
+-- a piece that has begun has a byte
+pub piece_len-some : (bs : List ℕ) → 0 < length bs → 0 < piece_len Open bs
+piece_len-some [] some = absurd (omega arith)
+piece_len-some (b ∷ bs) some = end-some (is_end Open b bs) (piece_len (region_after Open b) bs)

@@ -50,25 +50,16 @@ begin_at token (Some (head.Former former)) draft = record draft { pending = reco
 
 abbrev pub sized : Token → Draft → Draft
 sized (token.Number digits) draft = record draft { size = value digits }
-sized (token.Name _) draft = draft
-sized (token.Mark _) draft = draft
-sized (token.Reserved _) draft = draft
-sized (token.Text _) draft = draft
-sized token.Stray draft = draft
+sized _ draft = draft
 
 -- what is built with a token that an item takes
 abbrev pub act : Item → Token → Draft → Draft
 act item.Statement token draft = if is_reserved word.AllStructs token then record draft { command = Some command.AllStructs } else draft
-act item.Class token draft = draft
 act item.Symbol token draft = record draft { symbol = text_of token }
-act item.Rules token draft = draft
-act item.Rule token draft = draft
-act item.MoreRules token draft = draft
 act (item.Expr depth) token draft = begin_at token (head_of token) draft
 act (item.MoreExprs depth) token draft = if is_mark sign.CloseParen token then close draft else draft
 act item.Size token draft = sized token draft
-act (item.Mark sign) token draft = draft
-act (item.Reserved keyword) token draft = draft
+act _ token draft = draft
 
 -- has the innermost expression that is not whole an argument, if there is one
 abbrev pub is_filled : List Compound → Bool
@@ -80,15 +71,7 @@ abbrev pub is_ready : List Item → List Compound → Bool
 is_ready [] pending = true
 is_ready (item.Expr depth ∷ items) pending = true
 is_ready (item.MoreExprs depth ∷ items) pending = is_filled pending
-is_ready (item.Statement ∷ items) pending = is_ready items pending
-is_ready (item.Class ∷ items) pending = is_ready items pending
-is_ready (item.Symbol ∷ items) pending = is_ready items pending
-is_ready (item.Rules ∷ items) pending = is_ready items pending
-is_ready (item.Rule ∷ items) pending = is_ready items pending
-is_ready (item.MoreRules ∷ items) pending = is_ready items pending
-is_ready (item.Size ∷ items) pending = is_ready items pending
-is_ready (item.Mark sign ∷ items) pending = is_ready items pending
-is_ready (item.Reserved keyword ∷ items) pending = is_ready items pending
+is_ready (_ ∷ items) pending = is_ready items pending
 
 -- the number of expressions in a draft
 abbrev pub built : Draft → ℕ

@@ -8,3 +8,6 @@ pub mod Drafts
 pub mod Seen
 pub mod Machine
 pub mod Places
+pub mod Meaning
+pub mod Reading
+pub mod Laws

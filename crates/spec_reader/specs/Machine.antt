@@ -20,7 +20,7 @@ use Rattle.spec_reader.specs.declared.draft.Command.TheVariants as command
 use Rattle.spec_reader.specs.declared.seen.Seen.{Seen}
 use Rattle.spec_reader.specs.declared.read.Reader.{Reader}
 use Rattle.spec_reader.specs.Tokens.{Token, Placed}
-use Rattle.spec_reader.specs.Limits.{Reason, Unfit, Passes, Repeats, repeats}
+use Rattle.spec_reader.specs.Limits.{Reason, Passes, Repeats, repeats}
 use Rattle.spec_reader.specs.Seen.{reason_in, seen_after}
 use Rattle.spec_reader.specs.Table.{step, role_of, is_shallow}
 use Rattle.spec_reader.specs.Drafts.{empty, act, is_ready, is_draft}
@@ -33,9 +33,10 @@ start = record {
   draft = empty;
 }
 
--- what comes of a token: the reader after it, or why it is at fault
+-- what comes of a token: the reader after it, or that it doesn't fit, or why it is at fault though it fits
 pub data Advance : Type 0 where
   Goes : Reader → Advance
+  Unfit : Advance
   Stops : Reason → Advance
 
 abbrev pub pass : Option Reason → Item → List Item → Token → Reader → Advance
@@ -44,11 +45,11 @@ pass None item expected token reader =
     Goes (record { expected = expected; seen = seen_after (role_of item) token reader.seen; draft = act item token reader.draft })
 
 abbrev pub take_row : Option (List Item) → Item → List Item → Token → Reader → Advance
-take_row None item rest token reader = Stops Unfit
+take_row None item rest token reader = Unfit
 take_row (Some row) item rest token reader = pass (reason_in reader.seen (role_of item) token) item (row ++ rest) token reader
 
 abbrev pub take_on : List Item → Token → Reader → Advance
-take_on [] token reader = Stops Unfit
+take_on [] token reader = Unfit
 take_on (item ∷ rest) token reader = take_row (step item token) item rest token reader
 
 abbrev pub advance : Reader → Token → Advance
@@ -68,14 +69,14 @@ abbrev pub finished : List Item → ℕ → Reader → Result Statement Fault
 finished (item ∷ items) end reader = Err (fault.Syntax end)
 finished [] end reader = Ok (record { form = form_of reader.draft.command reader; quiet = false })
 
-abbrev pub fault_of : Reason → ℕ → Fault
-fault_of Unfit at = fault.Syntax at
-fault_of (Passes which) at = fault.Limit which
-fault_of (Repeats name) at = fault.DuplicateRule name
+abbrev pub fault_of : Reason → Fault
+fault_of (Passes which) = fault.Limit which
+fault_of (Repeats name) = fault.DuplicateRule name
 
 abbrev pub go_on : Advance → ℕ → (Reader → Result Statement Fault) → Result Statement Fault
 go_on (Goes reader) at more = more reader
-go_on (Stops reason) at more = Err (fault_of reason at)
+go_on Unfit at more = Err (fault.Syntax at)
+go_on (Stops reason) at more = Err (fault_of reason)
 
 -- what a reader answers to tokens, where the piece ends at place `end`
 abbrev pub run : Reader → ℕ → List Placed → Result Statement Fault
@@ -84,7 +85,7 @@ run reader end (placed ∷ rest) = go_on (advance reader placed.token) placed.at
 
 -- is it the fault at a place that an answer names, or want of memory
 abbrev pub IsStop : Advance → ℕ → Fault → Type 0
-IsStop advance at (fault.Syntax place) = (advance ≡ Stops Unfit) × (place ≡ at)
+IsStop advance at (fault.Syntax place) = (advance ≡ Unfit) × (place ≡ at)
 IsStop advance at (fault.DuplicateRule name) = advance ≡ Stops (Repeats name)
 IsStop advance at (fault.Limit which) = advance ≡ Stops (Passes which)
 IsStop advance at fault.Memory = Unit {0}

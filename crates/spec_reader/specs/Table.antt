@@ -12,39 +12,23 @@ use Rattle.spec_reader.specs.declared.table.Item.TheVariants as item
 use Rattle.spec_reader.specs.declared.table.Head.{Head}
 use Rattle.spec_reader.specs.declared.table.Head.TheVariants as head
 use Rattle.spec_reader.specs.declared.table.Former.TheVariants as former
-use Rattle.spec_reader.specs.Tokens.{Token, Mark, Reserved, Name, Number, Text, Stray, sign_text, keyword_text}
+use Rattle.spec_reader.specs.Tokens.{Token, Mark, Reserved, Name, Number, sign_text, keyword_text}
 
 abbrev pub is_mark : Sign → Token → Bool
 is_mark sign (Mark other) = bytes_eq (sign_text sign) (sign_text other)
-is_mark sign (Reserved _) = false
-is_mark sign (Name _) = false
-is_mark sign (Number _) = false
-is_mark sign (Text _) = false
-is_mark sign Stray = false
+is_mark sign _ = false
 
 abbrev pub is_reserved : Keyword → Token → Bool
-is_reserved keyword (Mark _) = false
 is_reserved keyword (Reserved other) = bytes_eq (keyword_text keyword) (keyword_text other)
-is_reserved keyword (Name _) = false
-is_reserved keyword (Number _) = false
-is_reserved keyword (Text _) = false
-is_reserved keyword Stray = false
+is_reserved keyword _ = false
 
 abbrev pub is_name : Token → Bool
-is_name (Mark _) = false
-is_name (Reserved _) = false
 is_name (Name _) = true
-is_name (Number _) = false
-is_name (Text _) = false
-is_name Stray = false
+is_name _ = false
 
 abbrev pub is_number : Token → Bool
-is_number (Mark _) = false
-is_number (Reserved _) = false
-is_number (Name _) = false
 is_number (Number _) = true
-is_number (Text _) = false
-is_number Stray = false
+is_number _ = false
 
 -- how an expression begins with a token
 abbrev pub head_of : Token → Option Head
@@ -90,31 +74,16 @@ step (item.Reserved keyword) token = only_if (is_reserved keyword token) []
 
 -- the role of the token that an item takes
 abbrev pub role_of : Item → Role
-role_of item.Statement = role.Plain
-role_of item.Class = role.Plain
-role_of item.Symbol = role.Plain
-role_of item.Rules = role.Plain
 role_of item.Rule = role.RuleName
-role_of item.MoreRules = role.Plain
 role_of (item.Expr depth) = role.ExprStart depth
-role_of (item.MoreExprs depth) = role.Plain
 role_of item.Size = role.SizeNumber
-role_of (item.Mark sign) = role.Plain
-role_of (item.Reserved keyword) = role.Plain
+role_of _ = role.Plain
 
 -- is the item of a depth that is looked at
 abbrev pub is_shallow : Item → Bool
-is_shallow item.Statement = true
-is_shallow item.Class = true
-is_shallow item.Symbol = true
-is_shallow item.Rules = true
-is_shallow item.Rule = true
-is_shallow item.MoreRules = true
 is_shallow (item.Expr depth) = nat_le depth 33
 is_shallow (item.MoreExprs depth) = nat_le depth 33
-is_shallow item.Size = true
-is_shallow (item.Mark sign) = true
-is_shallow (item.Reserved keyword) = true
+is_shallow _ = true
 
 -- the row stands in front of what was expected; where there is none the token doesn't fit
 abbrev pub Takes : Option (List Item) → Bool → List Item → List Item → Type 0

@@ -24,11 +24,7 @@ pub data Token : Type 0 where
 -- the bytes of a name
 abbrev pub text_of : Token → List ℕ
 text_of (Name text) = text
-text_of (Number _) = []
-text_of (Mark _) = []
-text_of (Reserved _) = []
-text_of (Text _) = []
-text_of Stray = []
+text_of _ = []
 
 -- how a sign is spelled
 abbrev pub sign_text : Sign → List ℕ
@@ -178,7 +174,4 @@ value digits = fold with_digit 0 digits
 abbrev pub is_spelled : Token → Bool
 is_spelled (Name text) = is_word text
 is_spelled (Number digits) = list_all is_digit digits
-is_spelled (Mark _) = true
-is_spelled (Reserved _) = true
-is_spelled (Text _) = true
-is_spelled Stray = true
+is_spelled _ = true

@@ -1,6 +1,6 @@
 //! How a script is cut into pieces.
 ghost use Rattle.std.specs.Prelude.{◌≡◌, ◌<◌, ◌≤◌, length, slice_range, IfSome, IsTrue};
-ghost use Rattle.spec_reader.specs.Cutting.{region_after, is_skipped, gap_len, is_end, piece_len, first_piece_of, begins_piece};
+ghost use Rattle.spec_reader.specs.Cutting.{region_after, is_skipped, gap_len, is_end, piece_len, begins_piece, first_piece_of};
 
 /// Where a byte stands, between the pieces or in a piece.
 #[derive(Clone, Copy, PartialEq, Eq, Debug)]
@@ -69,7 +69,6 @@ pub(crate) fn gap_len(text: &[u8]) -> usize
 fn piece_len(text: &[u8]) -> usize
     ensures value { result ≡ piece_len Region.Open text.now }
     ensures within { result ≤ length text.now }
-    ensures some { 0 < length text.now → 0 < result }
 {
     let mut region = Region::Open;
     for (i, byte) in text.iter().enumerate() {
@@ -87,8 +86,9 @@ fn piece_len(text: &[u8]) -> usize
 /// outside comments and strings, and where there is none with the script. `None` where only blanks and comments are
 /// left.
 pub fn first_piece(script: &[u8]) -> Option<(usize, usize)>
-    ensures value { result ≡ first_piece_of script.now }
-    ensures within { IfSome result (λ piece. (piece.0 < piece.1) × (piece.1 ≤ length script.now)) }
+    ensures piece { result ≡ first_piece_of script.now }
+    ensures some { IfSome result (λ piece. piece.0 < piece.1) }
+    ensures within { IfSome result (λ piece. piece.1 ≤ length script.now) }
     ensures begins { IfSome result (λ piece. IsTrue (begins_piece (slice_range script.now piece.0 piece.1))) }
 {
     let start = gap_len(script);

@@ -6,6 +6,7 @@
 
 mod cut;
 mod draft;
+mod laws;
 mod place;
 mod read;
 mod refusal;
@@ -16,6 +17,10 @@ mod table;
 mod token;
 
 pub use cut::first_piece;
+pub use laws::{
+    a_piece_has_a_statement_or_a_fault, a_piece_has_one_fault, a_piece_reads_as_one_statement,
+    what_is_read_keeps_the_facts_of_a_specification,
+};
 pub use place::{Place, behind};
 pub use refusal::{ReadRefused, Which};
 pub use statement::read_statement;

@@ -1,6 +1,7 @@
 //! How a piece is read as a statement.
-ghost use Rattle.std.specs.Prelude.{◌≡◌, ◌≤◌, IsTrue};
+ghost use Rattle.std.specs.Prelude.{◌≤◌, IsTrue, IfOk, IfErr};
 ghost use Rattle.spec_reader.specs.Cutting.{begins_piece};
+ghost use Rattle.spec_reader.specs.Reading.{ReadsAs, IsRefused};
 
 use crate::place::{Place, behind};
 use crate::read::read_tokens;
@@ -32,13 +33,15 @@ pub fn read_statement(
     requires line_high { line ≤ 16777217 }
     requires column_low { 1 ≤ column }
     requires column_high { column ≤ 16777217 }
+    ensures read { IfOk result (ReadsAs piece.now) }
+    ensures refused { IfErr result (IsRefused (record { line = line; column = column }) piece.now) }
 {
     if piece.len() > PIECE_MAX {
         return Err(ReadRefused::Limit(Which::Statement));
     }
-    if str::from_utf8(piece).is_err() {
+    let Ok(_) = str::from_utf8(piece) else {
         return Err(ReadRefused::NotText);
-    }
+    };
     match read_tokens(alloc, piece) {
         Ok(statement) => Ok(statement),
         Err(Fault::Syntax(at)) => {

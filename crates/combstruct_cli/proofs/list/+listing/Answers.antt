@@ -1,7 +1,7 @@
 use Rattle.std.specs.List.{flat_map, range_with_len}
 use Rattle.struct_model.specs.Structure.{Structure}
 use Rattle.listing_laws.specs.BySize.{list_of_size, components_of_size}
-use Rattle.std.proofs.Common.{ℕ, ◌≡◌, ◌≤◌, ◌+◌, ◌^◌, ◌-◌, ◌∷◌, ◌++◌, Some, length, take, drop, map, List, replicate, IfOk, sym, ap, subst, ◌∙◌, arith}
+use Rattle.std.proofs.Common.{ℕ, ◌≡◌, ◌≤◌, ◌+◌, ◌^◌, ◌-◌, ◌∷◌, ◌++◌, Some, length, take, drop, map, List, replicate, sym, ap, subst, ◌∙◌, arith}
 use Rattle.std.proofs.lemmas.Result.{IfOk-weaker}
 use Rattle.spec_syntax.specs.Expression.{Expression, Epsilon, Atom, nodes, nodes_of_all, expressions_of}
 use Rattle.spec_syntax.specs.ExpressionView.{expression_of}

@@ -1,4 +1,4 @@
-use Rattle.std.proofs.Common.{◌≡◌, ◌≤◌, ◌+◌, drop, find, Option, List, ℕ, None, sym, ap, subst, ◌∙◌, arith}
+use Rattle.std.proofs.Common.{◌≡◌, ◌≤◌, ◌+◌, drop, find, Option, List, ℕ, sym, ap, subst, ◌∙◌, arith}
 use Rattle.std.specs.Option.{option_or}
 use Rattle.spec_syntax.specs.Expression.{Expression, Union, Prod, nodes, nodes_of_all, expressions_of}
 use Rattle.spec_syntax.specs.ExpressionView.{expression_of}

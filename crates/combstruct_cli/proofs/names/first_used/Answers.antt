@@ -1,4 +1,4 @@
-use Rattle.std.proofs.Common.{◌≡◌, ◌+◌, drop, Option, List, ℕ, sym, ap, ◌∙◌}
+use Rattle.std.proofs.Common.{◌+◌, drop, Option, List, ℕ, sym, ap, ◌∙◌}
 use Rattle.std.specs.Option.{option_or}
 use Rattle.listing_laws.specs.Later.{first_used}
 use Rattle.combstruct_cli.specs.Names.{passes}

@@ -1,15 +1,17 @@
-use Rattle.std.proofs.Common.{ℕ, ◌≡◌, ◌<◌, ◌≢◌, ◌+◌, ◌-◌, List, length, drop, take, IsTrue, sym, subst, arith}
-use Rattle.std.proofs.lemmas.Grind.{common_steps}
-use Rattle.std.proofs.lemmas.Bool.Decides.{nat_tests}
-use Rattle.spec_reader.specs.Cutting.{gap_len, begins_piece}
-use Rattle.spec_reader.proofs.CutLemmas.{begins_piece-gap, begins_piece-take}
+use Rattle.std.specs.Prelude.{◌==◌}
+use Rattle.std.proofs.Common.{◌≡◌, ◌≢◌, ◌-◌, ◌<◌, length, take, drop, sym, ap, ◌∙◌, arith, length-drop}
+use Rattle.std.proofs.lemmas.Bool.{eqb-false}
+use Rattle.std.proofs.lemmas.List.{take_all}
+use Rattle.spec_reader.specs.declared.cut.Region.TheVariants.{Open}
+use Rattle.spec_reader.specs.Cutting.{piece_len}
+use Rattle.spec_reader.proofs.TokenLemmas.{begins_piece-at, piece_len-some}
 use Rattle.spec_reader.proofs.cut.first_piece.Goals as goal
 
 pub returns-clause-begins : goal.returns-clause-begins
 returns-clause-begins c =
-    let P : ℕ → Type 0 = λ start. start < length c.args.script.now → IsTrue (begins_piece (drop start c.args.script.now)) in
-    let left : length (take (length c.args.script.now - c.gap_len-start.result) (drop c.gap_len-start.result c.args.script.now)) ≢ 0 = grind (arith, nat_tests, c.if-is_empty.ensures) in
-    let short : c.gap_len-start.result < length c.args.script.now = grind (arith, common_steps, left) in
-    let some : 0 < c.piece_len.result = c.piece_len.ensures.some (omega arith) in
-    begins_piece-take (c.gap_len-start.result + c.piece_len.result - c.gap_len-start.result) (drop c.gap_len-start.result c.args.script.now) (omega arith)
-    (subst P (sym c.gap_len-start.ensures.value) (begins_piece-gap c.args.script.now) short)
+    let rest = drop c.gap_len-start.result c.args.script.now in
+    let all : take (length c.args.script.now - c.gap_len-start.result) rest ≡ rest = take_all _ _ (omega (arith, length-drop c.gap_len-start.result c.args.script.now)) in
+    let some : length rest ≢ 0 = eqb-false (length rest) 0 (sym (c.if-is_empty.ensures ∙ ap (λ bs. length bs == 0) all)) in
+    let more : 0 < piece_len Open rest = piece_len-some rest (omega arith) in
+    begins_piece-at c.args.script.now c.gap_len-start.result c.piece_len.result c.gap_len-start.ensures.value (omega (arith, length-drop c.gap_len-start.result c.args.script.now))
+    (rw (c.piece_len.ensures.value ∙ ap (piece_len Open) all) more)

@@ -1,0 +1,152 @@
+-- The answer to words and a script: what is written to the two outputs, and the status.
+use Rattle.std.specs.Prelude.{◌≡◌, ◌⊎◌, ℕ, ◌+◌, ◌<◌, ◌≤◌, Bool, true, false, ◌||◌, nat_lt, List, [], ◌∷◌, ◌++◌, length, take, drop, slice_range, codes, Option, Some, None, Result, Ok, Err, if◌then◌else◌}
+use Rattle.std.specs.Option.{option_map, option_or}
+use Rattle.spec_syntax.specs.declared.statement.Universe.TheVariants.{Unlabelled}
+use Rattle.spec_syntax.specs.declared.statement.RulesRef.TheVariants as rules_ref
+use Rattle.spec_syntax.specs.declared.statement.ClassRef.TheVariants as class_ref
+use Rattle.spec_syntax.specs.declared.statement.Job.TheVariants as job
+use Rattle.spec_syntax.specs.declared.statement.Form.{Form}
+use Rattle.spec_syntax.specs.declared.statement.Form.TheVariants as form
+use Rattle.spec_syntax.specs.declared.statement.Statement.{Statement}
+use Rattle.spec_syntax.specs.Expression.{Name}
+use Rattle.spec_syntax.specs.Rules.{Rules}
+use Rattle.spec_reader.specs.declared.place.Place.{Place}
+use Rattle.spec_reader.specs.declared.refusal.Which.TheVariants as which
+use Rattle.spec_reader.specs.declared.refusal.ReadRefused.{ReadRefused}
+use Rattle.spec_reader.specs.declared.refusal.ReadRefused.TheVariants as read
+use Rattle.spec_reader.specs.Cutting.{first_piece_of}
+use Rattle.spec_reader.specs.Places.{place_behind}
+use Rattle.spec_reader.specs.Reading.{Answers}
+use Rattle.struct_model.specs.Structure.{parts_of}
+use Rattle.struct_model.specs.Membership.{supply}
+use Rattle.struct_model.specs.Bounded.{listing}
+use Rattle.struct_model.specs.Text.{maple_parts}
+use Rattle.listing_laws.specs.Later.{backward_name, are_plain}
+use Rattle.comb_io.specs.Writes.{Write, to_out, to_err}
+use Rattle.combstruct_cli.specs.declared.refusal.Refusal.{Refusal}
+use Rattle.combstruct_cli.specs.declared.refusal.Refusal.TheVariants.{Read, Undefined, Backward}
+use Rattle.combstruct_cli.specs.declared.run.Status.{Status}
+use Rattle.combstruct_cli.specs.declared.run.Status.TheVariants as status
+use Rattle.combstruct_cli.specs.Unlabelled.{unlabelled}
+use Rattle.combstruct_cli.specs.Names.{undefined_name}
+use Rattle.combstruct_cli.specs.Refusals.{refusal_line}
+
+-- what a part of a script does: its writes, and whether it is refused
+pub record Effect : Type 0 where
+  pub writes : List Write
+  pub is_refused : Bool
+
+abbrev pub nothing : Effect
+nothing = record { writes = []; is_refused = false }
+
+abbrev pub writing : List ℕ → Effect
+writing text = record { writes = to_out text; is_refused = false }
+
+abbrev pub refusing : ℕ → Refusal → Effect
+refusing line refusal = record { writes = to_err (refusal_line line refusal); is_refused = true }
+
+-- one after the other
+abbrev pub followed_by : Effect → Effect → Effect
+followed_by first second = record { writes = first.writes ++ second.writes; is_refused = first.is_refused || second.is_refused }
+
+-- the texts of the structures of a class of a size, in brackets
+abbrev pub listing_text : Rules → List ℕ → ℕ → List ℕ
+listing_text rules symbol size =
+    codes "[" ++ maple_parts rules (parts_of (listing (unlabelled rules) (Name symbol) (supply Unlabelled size))) ++ codes "]\n"
+
+-- why a listing of a class is refused, if it is
+abbrev pub refusal_of : Rules → List ℕ → Option Refusal
+refusal_of rules symbol = option_or (option_map (λ name. Undefined name) (undefined_name rules symbol)) (option_map (λ name. Backward name) (backward_name rules))
+
+abbrev pub refusing_or : ℕ → Option Refusal → Effect → Effect
+refusing_or line None otherwise = otherwise
+refusing_or line (Some refusal) otherwise = refusing line refusal
+
+-- what `allstructs` of a class at a size does, in a statement that begins in this line
+abbrev pub effect_of_listing : Rules → List ℕ → ℕ → ℕ → Effect
+effect_of_listing rules symbol size line = refusing_or line (refusal_of rules symbol) (writing (listing_text rules symbol size))
+
+-- what a statement does that begins in this line. No other statement is read yet
+abbrev pub effect : Form → ℕ → Effect
+effect (form.List (job.Grammar (class_ref.Written symbol (rules_ref.Written rules) universe) size)) line = effect_of_listing rules symbol size line
+effect other line = nothing
+
+-- does no container stand in the rules of the statement
+abbrev pub is_plain_form : Form → Bool
+is_plain_form (form.List (job.Grammar (class_ref.Written symbol (rules_ref.Written rules) universe) size)) = are_plain rules
+is_plain_form other = true
+
+-- what a piece does that begins in this line, as it reads
+abbrev pub effect_of_piece : Result Statement ReadRefused → ℕ → Effect
+effect_of_piece (Ok statement) line = effect statement.form line
+effect_of_piece (Err why) line = refusing line (Read why)
+
+abbrev pub first_place : Place
+first_place = record { line = 1; column = 1 }
+
+-- where the byte at a place of a script stands
+abbrev pub place_in : List ℕ → ℕ → Place
+place_in script at = place_behind first_place (take at script)
+
+-- the most bytes of a script
+abbrev pub most_bytes : ℕ
+most_bytes = 16777216
+
+abbrev pub refusing_syntax : Place → Effect
+refusing_syntax place = refusing place.line (Read (read.Syntax place.line place.column))
+
+-- a script of too many bytes is refused in the line of the first byte that is too many
+abbrev pub refusing_long : List ℕ → Effect
+refusing_long script = if nat_lt most_bytes (length script) then refusing (place_in script most_bytes).line (Read (read.Limit which.Script)) else nothing
+
+-- a second piece that begins at this place is refused there, where that is early enough
+abbrev pub refusing_second : List ℕ → ℕ → Effect
+refusing_second script at = if nat_lt at most_bytes then refusing_syntax (place_in script at) else refusing_long script
+
+abbrev pub refusing_rest : List ℕ → ℕ → Option (ℕ × ℕ) → Effect
+refusing_rest script end None = refusing_long script
+refusing_rest script end (Some piece) = refusing_second script (end + piece.0)
+
+-- what follows the first piece, which ends at this place
+abbrev pub effect_after : List ℕ → ℕ → Effect
+effect_after script end = refusing_rest script end (first_piece_of (drop end script))
+
+-- the effect of the piece from `start` to `end`, and then of what follows it
+pub record RunsPiece (script : List ℕ) (start end : ℕ) (whole : Effect) : Type 0 where
+  pub reading : Result Statement ReadRefused
+  pub reads : Answers (place_in script start) (slice_range script start end) reading
+  pub does : whole ≡ followed_by (effect_of_piece reading (place_in script start).line) (effect_after script end)
+
+-- the first piece is run where it ends early enough
+abbrev pub RunsFirst : List ℕ → Option (ℕ × ℕ) → Effect → Type 0
+RunsFirst script None whole = whole ≡ refusing_long script
+RunsFirst script (Some piece) whole =
+    ((piece.1 ≤ most_bytes) × RunsPiece script piece.0 piece.1 whole) ⊎ ((most_bytes < piece.1) × (whole ≡ refusing_long script))
+
+-- the effect of a script. Of one with too many bytes one byte more than the most is looked at
+abbrev pub Runs : List ℕ → Effect → Type 0
+Runs script whole = RunsFirst (take (most_bytes + 1) script) (first_piece_of (take (most_bytes + 1) script)) whole
+
+abbrev pub usage : List ℕ
+usage = codes "usage: combstruct [--form=maple|tagged] [--seed=N | --bits=HEX] [--sample=N] [FILE]\n"
+
+-- the writes and the status
+pub record Answer : Type 0 where
+  pub writes : List Write
+  pub status : Status
+
+abbrev pub status_of : Bool → Status
+status_of true = status.SomeRefused
+status_of false = status.Well
+
+-- what is answered to a script without words: its effect
+pub record AnswersScript (script : List ℕ) (answer : Answer) : Type 0 where
+  pub whole : Effect
+  pub runs : Runs script whole
+  pub writes : answer.writes ≡ whole.writes
+  pub status : answer.status ≡ status_of whole.is_refused
+
+-- the answer to words and a script. No word is in form yet
+abbrev pub IsAnswer : {W : Type 0} → List W → List ℕ → Answer → Type 0
+IsAnswer [] script answer = AnswersScript script answer
+IsAnswer (word ∷ words) script answer = answer ≡ record { writes = to_err usage; status = status.Words }

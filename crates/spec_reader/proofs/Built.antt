@@ -1,0 +1,104 @@
+-- What is built of a statement is what it says.
+use Rattle.std.proofs.Common.{◌≡◌, ℕ, suc, Some, Result, Ok, List, [], ◌∷◌, ◌++◌, map, reverse, refl, sym, ap, ◌∙◌, append_assoc, append-nil}
+use Rattle.std.specs.Prelude.{zip, false}
+use Rattle.std.proofs.lemmas.List.{reverse-append, reverse-reverse}
+use Rattle.spec_syntax.specs.Expression.{Expression}
+use Rattle.spec_syntax.specs.Rules.{Rules}
+use Rattle.spec_syntax.specs.declared.statement.Universe.TheVariants as universe
+use Rattle.spec_syntax.specs.declared.statement.RulesRef.TheVariants as rules_ref
+use Rattle.spec_syntax.specs.declared.statement.ClassRef.TheVariants as class_ref
+use Rattle.spec_syntax.specs.declared.statement.Job.TheVariants as job
+use Rattle.spec_syntax.specs.declared.statement.Form.TheVariants as form
+use Rattle.spec_syntax.specs.declared.statement.Statement.{Statement}
+use Rattle.spec_reader.specs.declared.refusal.Fault.{Fault}
+use Rattle.spec_reader.specs.declared.token.Sign.TheVariants as sign
+use Rattle.spec_reader.specs.declared.token.Keyword.TheVariants as word
+use Rattle.spec_reader.specs.declared.draft.Command.TheVariants as command
+use Rattle.spec_reader.specs.declared.draft.Draft.{Draft}
+use Rattle.spec_reader.specs.Tokens.{value}
+use Rattle.spec_reader.specs.Grammar as tree
+use Rattle.spec_reader.specs.Grammar.{Marked, ExprTree, ExprTrees, RuleTree, RulesTree, ClassTree, StatementTree, expr, more_exprs, rule, more_rules, rules, class, statement}
+use Rattle.spec_reader.specs.Meaning.{expression_of, rule_of, rules_of, meaning}
+use Rattle.spec_reader.specs.Drafts.{empty}
+use Rattle.spec_reader.specs.Machine as machine
+use Rattle.spec_reader.specs.Reading.{names_in}
+use Rattle.spec_reader.proofs.Productions.{effect_of_rules, effect_of_statement}
+use Rattle.spec_reader.proofs.SeenLemmas.{seen_of, names_in-append}
+
+-- an expression names no rule
+mutual
+  names-expr : (depth : ℕ) (t : ExprTree) → names_in (expr depth t) ≡ []
+  names-expr depth tree.Epsilon = refl
+  names-expr depth tree.Atom = refl
+  names-expr depth tree.Z = refl
+  names-expr depth (tree.Named text) = refl
+  names-expr depth (tree.Union first others) =
+      names_in-append (expr (suc depth) first) (more_exprs (suc depth) others) ∙ (λ k. names-expr (suc depth) first k ++ names-more-exprs (suc depth) others k)
+  names-expr depth (tree.Prod first others) =
+      names_in-append (expr (suc depth) first) (more_exprs (suc depth) others) ∙ (λ k. names-expr (suc depth) first k ++ names-more-exprs (suc depth) others k)
+
+  names-more-exprs : (depth : ℕ) (es : ExprTrees) → names_in (more_exprs depth es) ≡ []
+  names-more-exprs depth tree.no_more = refl
+  names-more-exprs depth (tree.more e es) =
+      names_in-append (expr depth e) (more_exprs depth es) ∙ (λ k. names-expr depth e k ++ names-more-exprs depth es k)
+
+abbrev name_of : RuleTree → List ℕ
+name_of r = r.name
+
+abbrev right_of : RuleTree → Expression
+right_of r = expression_of r.right
+
+names-rule : (r : RuleTree) → names_in (rule r) ≡ r.name ∷ []
+names-rule r = ap (λ rest. r.name ∷ rest) (names-expr 1 r.right)
+
+names-rules : (rs : List RuleTree) → names_in (more_rules rs) ≡ map name_of rs
+names-rules [] = refl
+names-rules (r ∷ rs) = names_in-append (rule r) (more_rules rs) ∙ (λ k. names-rule r k ++ names-rules rs k)
+
+names-all-rules : (rs : RulesTree) → names_in (rules rs) ≡ map name_of (rs.first ∷ rs.others)
+names-all-rules rs = names_in-append (rule rs.first) (more_rules rs.others) ∙ (λ k. names-rule rs.first k ++ names-rules rs.others k)
+
+names-class : (c : ClassTree) → names_in (class c) ≡ map name_of (c.rules.first ∷ c.rules.others)
+names-class c =
+    names_in-append (rules c.rules) (tree.sign sign.Comma ∷ tree.word word.Unlabelled ∷ tree.sign sign.CloseBracket ∷ [])
+    ∙ append-nil (names_in (rules c.rules)) ∙ names-all-rules c.rules
+
+names-statement : (c : ClassTree) (digits : List ℕ) → names_in (statement (tree.Asks (tree.AllStructs c digits))) ≡ map name_of (c.rules.first ∷ c.rules.others)
+names-statement c digits =
+    names_in-append (tree.form (tree.AllStructs c digits)) (tree.sign sign.Semicolon ∷ []) ∙ append-nil (names_in (tree.form (tree.AllStructs c digits)))
+    ∙ names_in-append (class c) (tree.sign sign.Comma ∷ tree.word word.Size ∷ tree.sign sign.Equals ∷ tree.size digits ∷ tree.sign sign.CloseParen ∷ [])
+    ∙ append-nil (names_in (class c)) ∙ names-class c
+
+abbrev listed : List ℕ → List Expression → ℕ → Draft
+listed symbol rights size = record { command = Some command.AllStructs; symbol = symbol; rights = rights; pending = []; size = size }
+
+rules-built : (rs : List RuleTree) (symbol : List ℕ) (rights : List Expression) (size : ℕ)
+    → effect_of_rules rs (listed symbol rights size) ≡ listed symbol (reverse (map right_of rs) ++ rights) size
+rules-built [] symbol rights size = refl
+rules-built (r ∷ rs) symbol rights size =
+    rules-built rs symbol (right_of r ∷ rights) size
+    ∙ ap (λ those. listed symbol those size)
+    (sym (append_assoc (reverse (map right_of rs)) (right_of r ∷ []) rights) ∙ ap (λ those. those ++ rights) (sym (reverse-append (right_of r ∷ []) (map right_of rs))))
+
+zip-map : (rs : List RuleTree) → zip (map name_of rs) (map right_of rs) ≡ map rule_of rs
+zip-map [] = refl
+zip-map (r ∷ rs) = ap (λ rest. rule_of r ∷ rest) (zip-map rs)
+
+rules-are : (names : List (List ℕ)) (rs : RulesTree) → names ≡ map name_of (rs.first ∷ rs.others)
+    → machine.rules_from (reverse names) (reverse (map right_of rs.others) ++ right_of rs.first ∷ []) ≡ rules_of rs
+rules-are names rs same =
+    let rights : reverse (reverse (map right_of rs.others) ++ right_of rs.first ∷ []) ≡ map right_of (rs.first ∷ rs.others) =
+    reverse-append (reverse (map right_of rs.others)) (right_of rs.first ∷ []) ∙ ap (λ rest. right_of rs.first ∷ rest) (reverse-reverse (map right_of rs.others)) in
+    (λ k. zip ((reverse-reverse names ∙ same) k) (rights k)) ∙ zip-map (rs.first ∷ rs.others)
+
+-- what is built of a statement is what it says
+pub built-means : (t : StatementTree) (end : ℕ)
+    → machine.finished [] end (record { expected = []; seen = seen_of (statement t); draft = effect_of_statement t empty }) ≡ Ok (meaning t)
+built-means tree.Bare end = refl
+built-means (tree.Asks (tree.AllStructs c digits)) end =
+    let names = names_in (statement (tree.Asks (tree.AllStructs c digits))) in
+    let drafts : effect_of_statement (tree.Asks (tree.AllStructs c digits)) empty ≡ listed c.symbol (reverse (map right_of c.rules.others) ++ right_of c.rules.first ∷ []) (value digits) =
+    ap {A = Draft} {B = Draft} (λ d. record d { size = value digits }) (rules-built c.rules.others c.symbol (right_of c.rules.first ∷ []) 0) in
+    ap {A = Draft} (λ d. machine.finished [] end (record { expected = []; seen = seen_of (statement (tree.Asks (tree.AllStructs c digits))); draft = d })) drafts
+    ∙ ap {A = Rules} {B = Result Statement Fault} (λ rs. Ok (record { form = form.List (job.Grammar (class_ref.Written c.symbol (rules_ref.Written rs) universe.Unlabelled) (value digits)); quiet = false }))
+    (rules-are names c.rules (names-statement c digits))

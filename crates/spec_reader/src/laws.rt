@@ -1,0 +1,23 @@
+//! Laws of what pieces read as.
+ghost use Rattle.spec_reader.specs.Laws.{OneReading, OneFault, SomeAnswer, NeverBoth, ReadingsKeep};
+
+/// A piece reads as at most one statement.
+pub fn a_piece_reads_as_one_statement()
+    ensures { OneReading }
+{}
+
+/// A piece has at most one fault.
+pub fn a_piece_has_one_fault()
+    ensures { OneFault }
+{}
+
+/// A piece has a statement or a fault, and never both.
+pub fn a_piece_has_a_statement_or_a_fault()
+    ensures some { SomeAnswer }
+    ensures never_both { NeverBoth }
+{}
+
+/// The rules in a statement that is read are a specification.
+pub fn what_is_read_keeps_the_facts_of_a_specification()
+    ensures { ReadingsKeep }
+{}
