@@ -714,4 +714,10 @@ mod tests {
         }
         Ok(())
     }
+
+    #[test]
+    fn the_law_can_be_called(rt: HostRuntime) -> Result<(), Fail> {
+        each_script_has_one_answer(&Vec::new(rt.alloc()));
+        Ok(())
+    }
 }

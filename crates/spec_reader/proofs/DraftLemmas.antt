@@ -101,15 +101,7 @@ pub ready-filled : (items : List Item) (pending : List Compound) → is_filled p
 ready-filled [] pending filled = refl
 ready-filled (item.Expr depth ∷ items) pending filled = refl
 ready-filled (item.MoreExprs depth ∷ items) pending filled = filled
-ready-filled (item.Statement ∷ items) pending filled = ready-filled items pending filled
-ready-filled (item.Class ∷ items) pending filled = ready-filled items pending filled
-ready-filled (item.Symbol ∷ items) pending filled = ready-filled items pending filled
-ready-filled (item.Rules ∷ items) pending filled = ready-filled items pending filled
-ready-filled (item.Rule ∷ items) pending filled = ready-filled items pending filled
-ready-filled (item.MoreRules ∷ items) pending filled = ready-filled items pending filled
-ready-filled (item.Size ∷ items) pending filled = ready-filled items pending filled
-ready-filled (item.Mark sign ∷ items) pending filled = ready-filled items pending filled
-ready-filled (item.Reserved keyword ∷ items) pending filled = ready-filled items pending filled
+ready-filled (_ ∷ items) pending filled = ready-filled items pending filled
 
 -- an expression with arguments begins
 pub begun-holds : (n : ℕ) (former : Former) (draft : Draft) → Holds n draft → Holds (n + 1) (record draft { pending = record { former = former; arguments = [] } ∷ draft.pending })

@@ -1,3 +1,4 @@
+pub mod CutLemmas
 pub mod TokenLemmas
 pub mod NumberLemmas
 pub mod DraftLemmas

@@ -45,17 +45,9 @@ arguments-shallow depth (Some (head.Former former)) low = grind (arith, nat_test
 
 -- what is expected after a token is no deeper than is looked at
 pub step-shallow : (i : Item) (t : Token) → is_shallow i ≡ true → is_deeper 32 (role_of i) ≡ false → are_shallow (step i t) ≡ true
-step-shallow item.Statement t shallow low = grind arith
-step-shallow item.Class t shallow low = grind arith
-step-shallow item.Symbol t shallow low = grind arith
-step-shallow item.Rules t shallow low = grind arith
-step-shallow item.Rule t shallow low = grind arith
-step-shallow item.MoreRules t shallow low = grind arith
 step-shallow (item.Expr depth) t shallow low = arguments-shallow depth (head_of t) low
 step-shallow (item.MoreExprs depth) t shallow low = grind (arith, shallow)
-step-shallow item.Size t shallow low = grind arith
-step-shallow (item.Mark sign) t shallow low = grind arith
-step-shallow (item.Reserved keyword) t shallow low = grind arith
+step-shallow _ t shallow low = grind arith
 
 abbrev row_ready : Option (List Item) → List Item → List Compound → Bool
 row_ready None rest pending = true
@@ -71,39 +63,18 @@ begin-ready depth t (Some (head.Former former.Prod)) rest draft = refl
 
 sized-pending : (t : Token) (draft : Draft) → (sized t draft).pending ≡ draft.pending
 sized-pending (token.Number digits) draft = refl
-sized-pending (token.Name text) draft = refl
-sized-pending (token.Mark s) draft = refl
-sized-pending (token.Reserved k) draft = refl
-sized-pending (token.Text text) draft = refl
-sized-pending token.Stray draft = refl
-
-sized-rights : (t : Token) (draft : Draft) → (sized t draft).rights ≡ draft.rights
-sized-rights (token.Number digits) draft = refl
-sized-rights (token.Name text) draft = refl
-sized-rights (token.Mark s) draft = refl
-sized-rights (token.Reserved k) draft = refl
-sized-rights (token.Text text) draft = refl
-sized-rights token.Stray draft = refl
+sized-pending _ draft = refl
 
 -- the table can go on after a token
 pub step-ready : (i : Item) (t : Token) (rest : List Item) (draft : Draft) → is_ready (i ∷ rest) draft.pending ≡ true → row_ready (step i t) rest (act i t draft).pending ≡ true
-step-ready item.Statement t rest draft ready = grind (arith, ready)
-step-ready item.Class t rest draft ready = grind (arith, ready)
-step-ready item.Symbol t rest draft ready = grind (arith, ready)
-step-ready item.Rules t rest draft ready = grind (arith, ready)
-step-ready item.Rule t rest draft ready = grind (arith, ready)
-step-ready item.MoreRules t rest draft ready = grind (arith, ready)
 step-ready (item.Expr depth) t rest draft ready = begin-ready depth t (head_of t) rest draft
 step-ready (item.MoreExprs depth) t rest draft ready = grind (arith, ready-filled rest (close draft).pending (close-filled draft))
 step-ready item.Size t rest draft ready = rw (sized-pending t draft) (grind (arith, ready))
-step-ready (item.Mark sign) t rest draft ready = grind (arith, ready)
-step-ready (item.Reserved keyword) t rest draft ready = grind (arith, ready)
+step-ready _ t rest draft ready = grind (arith, ready)
 
 abbrev weight : Role → ℕ
 weight (role.ExprStart depth) = 1
-weight role.Plain = 0
-weight role.RuleName = 0
-weight role.SizeNumber = 0
+weight _ = 0
 
 more-holds : (n : ℕ) (draft : Draft) → Holds n draft → Holds (n + 1) draft
 more-holds n draft holds = record { rights = holds.rights; pending = holds.pending; count = omega (arith, holds.count) }
@@ -120,11 +91,7 @@ begin-holds n t (Some (head.Former former)) draft holds = begun-holds n former d
 
 sized-holds : (n : ℕ) (t : Token) (draft : Draft) → Holds n draft → Holds (n + 0) (sized t draft)
 sized-holds n (token.Number digits) draft holds = same-holds n (record draft { size = value digits }) (record { rights = holds.rights; pending = holds.pending; count = holds.count })
-sized-holds n (token.Name text) draft holds = same-holds n draft holds
-sized-holds n (token.Mark s) draft holds = same-holds n draft holds
-sized-holds n (token.Reserved k) draft holds = same-holds n draft holds
-sized-holds n (token.Text text) draft holds = same-holds n draft holds
-sized-holds n token.Stray draft holds = same-holds n draft holds
+sized-holds n _ draft holds = same-holds n draft holds
 
 command-holds : (n : ℕ) (b : Bool) (command : Command) (draft : Draft) → Holds n draft → Holds (n + 0) (if b then record draft { command = Some command } else draft)
 command-holds n true command draft holds = same-holds n (record draft { command = Some command }) (record { rights = holds.rights; pending = holds.pending; count = holds.count })
@@ -137,16 +104,11 @@ closing-holds n false draft holds filled = same-holds n draft holds
 -- what is built with a token is well formed, and has at most one expression more where an expression begins
 pub act-holds : (n : ℕ) (i : Item) (t : Token) (rest : List Item) (draft : Draft) → Holds n draft → is_ready (i ∷ rest) draft.pending ≡ true → Holds (n + weight (role_of i)) (act i t draft)
 act-holds n item.Statement t rest draft holds ready = command-holds n (is_reserved word.AllStructs t) command.AllStructs draft holds
-act-holds n item.Class t rest draft holds ready = same-holds n draft holds
 act-holds n item.Symbol t rest draft holds ready = same-holds n (record draft { symbol = text_of t }) (record { rights = holds.rights; pending = holds.pending; count = holds.count })
-act-holds n item.Rules t rest draft holds ready = same-holds n draft holds
-act-holds n item.Rule t rest draft holds ready = same-holds n draft holds
-act-holds n item.MoreRules t rest draft holds ready = same-holds n draft holds
 act-holds n (item.Expr depth) t rest draft holds ready = begin-holds n t (head_of t) draft holds
 act-holds n (item.MoreExprs depth) t rest draft holds ready = closing-holds n (is_mark sign.CloseParen t) draft holds ready
 act-holds n item.Size t rest draft holds ready = sized-holds n t draft holds
-act-holds n (item.Mark sign) t rest draft holds ready = same-holds n draft holds
-act-holds n (item.Reserved keyword) t rest draft holds ready = same-holds n draft holds
+act-holds n _ t rest draft holds ready = same-holds n draft holds
 
 same-sym : (a b : List ℕ) → is_same_name a b ≡ is_same_name b a
 same-sym [] [] = refl
@@ -176,11 +138,7 @@ name-step seen (token.Name text) named spelled sound none =
     let few : nat_le (length (text ∷ seen.names)) 64 ≡ true = grind (arith, nat_tests, passes.rules, length-reverse seen.names) in
     let small : nat_le seen.expressions 128 ≡ true = grind (arith, sound) in
     rw turned (grind (arith, distinct, words, few, small))
-name-step seen (token.Mark s) named spelled sound none = cc
-name-step seen (token.Reserved k) named spelled sound none = cc
-name-step seen (token.Number digits) named spelled sound none = cc
-name-step seen (token.Text text) named spelled sound none = cc
-name-step seen token.Stray named spelled sound none = cc
+name-step seen _ named spelled sound none = cc
 
 expr-step : (seen : Seen) (depth : ℕ) (t : Token) → is_sound_seen seen ≡ true → reason_in seen (role.ExprStart depth) t ≡ None → is_sound_seen (seen_after (role.ExprStart depth) t seen) ≡ true
 expr-step seen depth t sound none =
@@ -194,17 +152,9 @@ only-name t row e = only_if-true (is_name t) _ row e
 -- what was seen stays within the limits
 pub seen-step : (seen : Seen) (i : Item) (t : Token) (row : List Item) → step i t ≡ Some row → is_spelled t ≡ true → is_sound_seen seen ≡ true → reason_in seen (role_of i) t ≡ None
     → is_sound_seen (seen_after (role_of i) t seen) ≡ true
-seen-step seen item.Statement t row fits spelled sound none = sound
-seen-step seen item.Class t row fits spelled sound none = sound
-seen-step seen item.Symbol t row fits spelled sound none = sound
-seen-step seen item.Rules t row fits spelled sound none = sound
 seen-step seen item.Rule t row fits spelled sound none = name-step seen t (only-name t row fits) spelled sound none
-seen-step seen item.MoreRules t row fits spelled sound none = sound
 seen-step seen (item.Expr depth) t row fits spelled sound none = expr-step seen depth t sound none
-seen-step seen (item.MoreExprs depth) t row fits spelled sound none = sound
-seen-step seen item.Size t row fits spelled sound none = sound
-seen-step seen (item.Mark sign) t row fits spelled sound none = sound
-seen-step seen (item.Reserved keyword) t row fits spelled sound none = sound
+seen-step seen _ t row fits spelled sound none = sound
 
 list_all-append : (xs ys : List Item) → list_all is_shallow xs ≡ true → list_all is_shallow ys ≡ true → list_all is_shallow (xs ++ ys) ≡ true
 list_all-append [] ys front back = back
@@ -231,10 +181,8 @@ sound-whole reader sound =
     grind (arith, sound.shallow, sound.ready, sound.within, sound.holds.rights, sound.holds.pending, enough)
 
 weighed : (i : Role) (t : Token) (seen : Seen) → (seen_after i t seen).expressions ≡ seen.expressions + weight i
-weighed role.Plain t seen = omega arith
-weighed role.RuleName t seen = omega arith
 weighed (role.ExprStart depth) t seen = refl
-weighed role.SizeNumber t seen = omega arith
+weighed _ t seen = omega arith
 
 -- the parts stay so over a token that an item takes
 pub row-sound : (i : Item) (rest : List Item) (found : Option (List Item)) (row : List Item) (t : Token) (seen : Seen) (draft : Draft) → step i t ≡ found → found ≡ Some row

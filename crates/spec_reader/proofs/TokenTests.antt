@@ -88,27 +88,15 @@ keyword-same k other e =
 
 pub mark-is : (s : Sign) (t : Token) → is_mark s t ≡ true → t ≡ Mark s
 mark-is s (Mark other) e = ap (λ o. Mark o) (sign-same s other e)
-mark-is s (Reserved k) e = cc
-mark-is s (Name text) e = cc
-mark-is s (Number digits) e = cc
-mark-is s (Text text) e = cc
-mark-is s Stray e = cc
+mark-is s _ e = cc
 
 pub reserved-is : (k : Keyword) (t : Token) → is_reserved k t ≡ true → t ≡ Reserved k
-reserved-is k (Mark s) e = cc
 reserved-is k (Reserved other) e = ap (λ o. Reserved o) (keyword-same k other e)
-reserved-is k (Name text) e = cc
-reserved-is k (Number digits) e = cc
-reserved-is k (Text text) e = cc
-reserved-is k Stray e = cc
+reserved-is k _ e = cc
 
 pub name-is : (t : Token) → is_name t ≡ true → t ≡ Name (text_of t)
-name-is (Mark s) e = cc
-name-is (Reserved other) e = cc
 name-is (Name text) e = refl
-name-is (Number digits) e = cc
-name-is (Text text) e = cc
-name-is Stray e = cc
+name-is _ e = cc
 
 -- the digits of a number
 abbrev pub digits_of : Token → List ℕ
@@ -116,12 +104,8 @@ digits_of (Number digits) = digits
 digits_of _ = []
 
 pub number-is : (t : Token) → is_number t ≡ true → t ≡ Number (digits_of t)
-number-is (Mark s) e = cc
-number-is (Reserved other) e = cc
-number-is (Name text) e = cc
 number-is (Number digits) e = refl
-number-is (Text text) e = cc
-number-is Stray e = cc
+number-is _ e = cc
 
 pub mark-same : (s : Sign) → is_mark s (Mark s) ≡ true
 mark-same s = (bytes_eq-Decides (sign_text s) (sign_text s)).1 refl

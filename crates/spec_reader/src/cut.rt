@@ -1,6 +1,6 @@
 //! How a script is cut into pieces.
-ghost use Rattle.std.specs.Prelude.{◌≡◌, ◌<◌, ◌≤◌, length, slice_range, IfSome, IsTrue};
-ghost use Rattle.spec_reader.specs.Cutting.{region_after, is_skipped, gap_len, is_end, piece_len, begins_piece, first_piece_of};
+ghost use Rattle.std.specs.Prelude.{◌≡◌, ◌<◌, ◌≤◌, length, slice_get, slice_range, IfSome, IsTrue};
+ghost use Rattle.spec_reader.specs.Cutting.{region_after, is_skipped, gap_len, is_end, piece_len, begins_piece, first_piece_of, pieces};
 
 /// Where a byte stands, between the pieces or in a piece.
 #[derive(Clone, Copy, PartialEq, Eq, Debug)]
@@ -87,6 +87,7 @@ fn piece_len(text: &[u8]) -> usize
 /// left.
 pub fn first_piece(script: &[u8]) -> Option<(usize, usize)>
     ensures piece { result ≡ first_piece_of script.now }
+    ensures first { slice_get (pieces script.now) 0 ≡ result }
     ensures some { IfSome result (λ piece. piece.0 < piece.1) }
     ensures within { IfSome result (λ piece. piece.1 ≤ length script.now) }
     ensures begins { IfSome result (λ piece. IsTrue (begins_piece (slice_range script.now piece.0 piece.1))) }

@@ -3,7 +3,11 @@ ghost use Rattle.std.specs.Prelude.{◌≡◌};
 ghost use Rattle.spec_reader.specs.Cutting.{begins_piece};
 
 use crate::cut::Region;
-use crate::{ReadRefused, Which, first_piece, read_statement};
+use crate::{
+    Place, ReadRefused, Which, a_piece_has_a_statement_or_a_fault, a_piece_has_one_fault,
+    a_piece_reads_as_one_statement, behind, first_piece, read_statement,
+    what_is_read_keeps_the_facts_of_a_specification,
+};
 use spec_syntax::{ClassRef, ExprShape, Form, Job, RulesRef, Universe};
 use std::alloc::{AllocError, Global};
 use std::process::Abort;
@@ -391,5 +395,23 @@ fn a_statement_is_what_its_piece_says(rt: HostRuntime) -> Result<(), Fail> {
     };
     assert_eq!(rt; parts.len(), 2);
     assert!(rt; matches!(parts.at(1).shape, ExprShape::Atom));
+    Ok(())
+}
+
+#[test]
+fn the_laws_can_be_called() {
+    a_piece_reads_as_one_statement();
+    a_piece_has_one_fault();
+    a_piece_has_a_statement_or_a_fault();
+    what_is_read_keeps_the_facts_of_a_specification();
+}
+
+#[test]
+fn place_behind_lines(rt: HostRuntime) -> Result<(), Fail> {
+    let start = Place { line: 4, column: 3 };
+    let same_line = behind(start, b"ab\t");
+    assert_eq!(rt; (same_line.line, same_line.column), (4, 6));
+    let next_line = behind(start, b"a\r\n b");
+    assert_eq!(rt; (next_line.line, next_line.column), (5, 3));
     Ok(())
 }

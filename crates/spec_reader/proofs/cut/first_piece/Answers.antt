@@ -4,7 +4,7 @@ use Rattle.std.proofs.lemmas.Bool.{eqb-false}
 use Rattle.std.proofs.lemmas.List.{take_all}
 use Rattle.spec_reader.specs.declared.cut.Region.TheVariants.{Open}
 use Rattle.spec_reader.specs.Cutting.{piece_len}
-use Rattle.spec_reader.proofs.TokenLemmas.{begins_piece-at, piece_len-some}
+use Rattle.spec_reader.proofs.CutLemmas.{begins_piece-at, piece_len-some}
 use Rattle.spec_reader.proofs.cut.first_piece.Goals as goal
 
 pub returns-clause-begins : goal.returns-clause-begins
