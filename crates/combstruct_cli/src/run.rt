@@ -457,11 +457,11 @@ mod tests {
     };
 
     /// Runs a script without words.
-    fn outcome_of<S: Source>(
+    fn outcome_of<S: Source, O: Sink, E: Sink>(
         alloc: Global,
         input: &mut S,
-        out: &mut MemSink,
-        err: &mut MemSink,
+        out: &mut O,
+        err: &mut E,
     ) -> Status {
         let words = Vec::new(alloc);
         run(alloc, &words, input, &mut SureShelf::new(&[]), out, err)
@@ -476,6 +476,13 @@ mod tests {
         refusal: &str,
         ending: Status,
     ) -> Result<(), Fail> {
+        let mut out = SureSink::new(alloc);
+        let mut err = SureSink::new(alloc);
+        let mut input = SureSource::new(script.as_bytes());
+        let status = outcome_of(alloc, &mut input, &mut out, &mut err);
+        assert_eq!(rt; status, ending, "{script}");
+        assert_eq!(rt; out.bytes(), answer.as_bytes(), "{script}");
+        assert_eq!(rt; err.bytes(), refusal.as_bytes(), "{script}");
         for most in SIZES {
             assert!(rt; most > 0);
             let mut input = MemSource::new(alloc, script.as_bytes(), most, &[])?;
