@@ -8,7 +8,7 @@ use Rattle.comb_io.specs.Writes.{to_err}
 use Rattle.combstruct_cli.specs.declared.run.Status.TheVariants as status
 use Rattle.combstruct_cli.specs.declared.run.Outcome.TheVariants.{Done, Refused}
 use Rattle.combstruct_cli.specs.Outcome.{outcome_of}
-use Rattle.std.proofs.Common.{◌≡◌, ◌≢◌, ◌<◌, ◌≤◌, ◌+◌, Bool, true, false, [], ◌∷◌, take, subst, leb, arith, ℕ, List, ◌++◌, length, replicate, codes, IsTrue, Option, Some, None, refl, sym, ap, ◌∙◌}
+use Rattle.std.proofs.Common.{◌≡◌, ◌≢◌, ◌⊎◌, inl, inr, ◌<◌, ◌≤◌, ◌+◌, Bool, true, false, [], ◌∷◌, take, subst, leb, arith, ℕ, List, ◌++◌, length, replicate, codes, IsTrue, Option, Some, None, refl, sym, ap, ◌∙◌}
 use Rattle.std.specs.Option.{option_map, option_or}
 use Rattle.spec_syntax.specs.Expression.{Name}
 use Rattle.spec_syntax.specs.Rules.{Rules}
@@ -19,6 +19,7 @@ use Rattle.listing_laws.specs.Later.{are_plain, name_without_rule, backward_name
 use Rattle.listing_laws.proofs.Listed.{later_rules_are_listed}
 use Rattle.listing_laws.proofs.LaterTests.{later_by_names}
 use Rattle.combstruct_cli.specs.declared.refusal.Refusal.TheVariants.{Read, Undefined, Backward}
+use Rattle.combstruct_cli.specs.Input.{TookOver}
 use Rattle.combstruct_cli.specs.Unlabelled.{unlabelled}
 use Rattle.combstruct_cli.specs.Names.{undefined_name}
 use Rattle.combstruct_cli.specs.Answer.{writing, refusing, refusing_or, refusal_of, listing_text, effect_of_listing, nothing, place_in, refusing_long, refusing_syntax, refusing_second, usage, Answer, status_of, AnswersScript, IsAnswer}
@@ -107,3 +108,14 @@ status-done false e = refl
 pub status-refused : (b : Bool) → Refused ≡ outcome_of b → status_of b ≡ status.SomeRefused
 status-refused true e = refl
 status-refused false e = absurd (cc)
+
+-- what was taken ends with the source, or is over the most
+pub end_or_over : (most : ℕ) (script : List ℕ) (left left' : Option (List ℕ)) → Consumes left left' script → (length script ≤ most → IsAtEnd left') → IsAtEnd left' ⊎ TookOver most left left'
+end_or_over most script left left' taken at_end = by (within_or_over (length script) most)
+  where
+    within_or_over : (n m : ℕ) → (n ≤ m) ⊎ (m < n)
+    within_or_over n m = grind (arith)
+
+    by : (length script ≤ most) ⊎ (most < length script) → IsAtEnd left' ⊎ TookOver most left left'
+    by (inl within) = inl (at_end within)
+    by (inr over) = inr (record { taken = script; over = over; took = taken })

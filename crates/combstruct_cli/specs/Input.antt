@@ -1,5 +1,5 @@
 -- What taking bytes from a source does.
-use Rattle.std.specs.Prelude.{◌≡◌, ℕ, ◌≤◌, ⊤, List, ◌++◌, length, Option, IfErr, Result}
+use Rattle.std.specs.Prelude.{◌≡◌, ℕ, ◌≤◌, ◌<◌, ⊤, List, ◌++◌, length, Option, IfErr, Result}
 use Rattle.std.specs.Io.KnownBytes.{Consumes}
 use Rattle.comb_io.specs.Faults.{Rose}
 use Rattle.combstruct_cli.specs.declared.input.InputFault.{InputFault}
@@ -21,3 +21,9 @@ pub record Took (left left' : Option (List ℕ)) (old new : List ℕ) (count : �
   pub taken : Consumes left left' piece
   pub grown : new ≡ old ++ piece
   pub counted : length piece ≡ count
+
+-- more bytes than this were taken
+pub record TookOver (most : ℕ) (left left' : Option (List ℕ)) : Type 0 where
+  pub taken : List ℕ
+  pub over : most < length taken
+  pub took : Consumes left left' taken

@@ -16,6 +16,7 @@ ghost use Rattle.listing_laws.specs.Lister.{lists_to_depth};
 ghost use Rattle.combstruct_cli.specs.Unlabelled.{unlabelled};
 ghost use Rattle.combstruct_cli.specs.Answer.{Effect, Answer, refusing, refusing_long, refusal_of, effect_of_listing, effect, effect_of_piece, effect_after, refusing_second, RunsPiece, RunsFirst, IsAnswer, is_plain_form};
 ghost use Rattle.combstruct_cli.specs.Outcome.{HasErrCause, HasRunCause, Makes, Ends, Gives, DidNotRise, either};
+ghost use Rattle.combstruct_cli.specs.Input.{TookOver};
 ghost use Rattle.combstruct_cli.specs.Laws.{SomeAnswer, OneAnswer};
 
 use crate::input::{InputFault, MOST_BYTES, read_script};
@@ -390,6 +391,7 @@ pub fn run<S: Source, F: Shelf, O: Sink, E: Sink>(
     ensures untouched { result ≡ Status.Input → (O.written out.new ≡ O.written out.old) × (E.written err.new ≡ E.written err.old) }
     ensures unread { words.now.items ≢ [] → S.left input.new ≡ S.left input.old }
     ensures at_end { result ≡ Status.Well → IsAtEnd (S.left input.new) }
+    ensures at_end_or_over { result ≡ Status.SomeRefused → IsAtEnd (S.left input.new) ⊎ TookOver 16777216 (S.left input.old) (S.left input.new) }
     ensures words { result ≡ Status.Words → words.now.items ≢ [] }
     ensures no_words { words.now.items ≢ [] → (result ≡ Status.Words) ⊎ (result ≡ Status.Output) ⊎ (result ≡ Status.Memory) }
     ensures input { result ≡ Status.Input → Rose (S.faults input.old) (S.faults input.new) }

@@ -8,7 +8,7 @@ use Rattle.comb_io.proofs.Written.{Wrote-to_err, WrotePrefix-proper, WroteProper
 use Rattle.combstruct_cli.specs.declared.run.Outcome.TheVariants.{Done, Refused}
 use Rattle.combstruct_cli.specs.declared.run.RunFault.TheVariants.{Output, Memory}
 use Rattle.combstruct_cli.specs.Answer.{Answer, AnswersScript, usage, most_bytes}
-use Rattle.combstruct_cli.proofs.AnswerLemmas.{taken_whole, IsAnswer-words, IsAnswer-script}
+use Rattle.combstruct_cli.proofs.AnswerLemmas.{taken_whole, end_or_over, IsAnswer-words, IsAnswer-script}
 use Rattle.combstruct_cli.proofs.RunLemmas.{Makes-answer, Ends-done, Ends-refused, Ends-output, Ends-memory, no_items, some_items}
 use Rattle.comb_io.specs.Faults.{Rose, OnFailed as SinkFailed}
 use Rattle.comb_io.specs.declared.sinks.SinkFault.{SinkFault}
@@ -152,3 +152,9 @@ returns-in-Err-Output-clause-complete g c =
     let rise = Rose (g.O.Sink.faults c.args.out.now) (g.O.Sink.faults c.run_script.new.out) ⊎ Rose (g.E.Sink.faults c.args.err.now) (g.E.Sink.faults c.run_script.new.err) in
     let rose : rise = subst (λ (fault : RunFault). OnOutput fault rise) c.in-Err-Output.field-0-is c.in-Err-Output.ensures.cause.failed in
     absurd (neither rose out_unfailed err_unfailed)
+
+pub returns-in-Ok-Refused-clause-at_end_or_over : goal.returns-in-Ok-Refused-clause-at_end_or_over
+returns-in-Ok-Refused-clause-at_end_or_over g c =
+    λ refused.
+    let counts = c.in-Ok-read_script.script.ok.0 in
+    end_or_over most_bytes c.in-Ok-read_script.script.items _ _ c.in-Ok-read_script.ensures.taken (λ short. c.in-Ok-read_script.ensures.end (subst (λ n. n ≤ most_bytes) (sym counts) short))
