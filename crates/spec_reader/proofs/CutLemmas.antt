@@ -1,9 +1,8 @@
 -- Laws of cutting a script.
-use Rattle.std.proofs.Common.{◌≡◌, ℕ, zero, suc, ◌+◌, ◌-◌, ◌<◌, Bool, true, false, not, cond, Option, Some, None, List, [], ◌∷◌, length, length-drop, take, drop, slice_range, slice_get, refl, ap, ◌∙◌, arith, zero-add}
-use Rattle.std.specs.Option.{option_map_or}
+use Rattle.std.proofs.Common.{◌≡◌, ℕ, zero, suc, ◌+◌, ◌-◌, ◌<◌, Bool, true, false, not, cond, List, [], ◌∷◌, length, length-drop, take, drop, slice_range, refl, ap, ◌∙◌, arith}
 use Rattle.std.proofs.lemmas.Bool.Decides.{nat_tests}
 use Rattle.spec_reader.specs.declared.cut.Region.TheVariants.{Open, Comment}
-use Rattle.spec_reader.specs.Cutting.{begins_piece, is_end, piece_len, gap_len, region_after, is_skipped, first_piece_of, pieces, pieces_from}
+use Rattle.spec_reader.specs.Cutting.{begins_piece, is_end, piece_len, gap_len, region_after, is_skipped}
 
 mutual
   -- what follows a gap begins with no byte of a gap

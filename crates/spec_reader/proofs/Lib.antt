@@ -16,3 +16,4 @@ pub mod Verdict
 pub mod Agree
 pub mod Pieces
 pub mod Keeps
+pub mod Small

@@ -1,9 +1,8 @@
 -- Laws of the tokens of a piece.
-use Rattle.std.proofs.Common.{◌≡◌, ℕ, zero, suc, ◌+◌, ◌-◌, ◌<◌, ◌≤◌, Bool, true, false, cond, not, slice_range, List, [], ◌∷◌, length, length-drop, take, drop, refl, sym, ap, ◌∙◌, arith, add-zero}
-use Rattle.std.proofs.lemmas.Bool.Decides.{nat_tests}
+use Rattle.std.proofs.Common.{◌≡◌, ℕ, zero, suc, ◌+◌, ◌-◌, ◌<◌, ◌≤◌, Bool, true, false, List, [], ◌∷◌, length, length-drop, drop, refl, sym, ap, ◌∙◌, arith, add-zero}
 use Rattle.std.proofs.lemmas.List.{drop-drop}
 use Rattle.std.proofs.Math.ListN.{drop_of_length-le}
-use Rattle.spec_reader.specs.declared.cut.Region.TheVariants.{Open, Comment}
+use Rattle.spec_reader.specs.declared.cut.Region.TheVariants.{Open}
 use Rattle.spec_reader.specs.Cutting.{gap_len, region_after, is_skipped}
 use Rattle.spec_reader.proofs.CutLemmas.{gap-ends, no-gap}
 use Rattle.spec_reader.specs.Tokens.{Token, tokens_from, front_of, front_at}

@@ -10,7 +10,7 @@ use Rattle.spec_reader.specs.declared.token.Keyword.TheVariants as word
 use Rattle.spec_reader.specs.declared.table.Head.{Head}
 use Rattle.spec_reader.specs.declared.table.Head.TheVariants as head
 use Rattle.spec_reader.specs.declared.table.Former.TheVariants as former
-use Rattle.spec_reader.specs.Tokens.{Token, Mark, Reserved, Name, Number, Text, Stray, text_of, sign_text, signs, keyword_text, keyword_of}
+use Rattle.spec_reader.specs.Tokens.{Token, Mark, Reserved, Name, Number, text_of, sign_text, signs, keyword_text, keyword_of}
 use Rattle.spec_reader.specs.Table.{is_mark, is_reserved, is_name, is_number, head_of}
 
 sign_back : List ℕ → Option Sign

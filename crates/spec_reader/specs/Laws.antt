@@ -1,5 +1,5 @@
 -- Laws of what pieces read as.
-use Rattle.std.specs.Prelude.{◌≡◌, ℕ, IsTrue, Result, List}
+use Rattle.std.specs.Prelude.{◌≡◌, ◌≤◌, ℕ, IsTrue, Result, List}
 use Rattle.spec_syntax.specs.Rules.{is_spec}
 use Rattle.spec_syntax.specs.declared.statement.RulesRef.{RulesRef}
 use Rattle.spec_syntax.specs.declared.statement.RulesRef.TheVariants as rules_ref
@@ -56,3 +56,18 @@ FormKeeps _ = Unit {0}
 -- the rules in a statement that is read are a specification
 abbrev pub ReadingsKeep : Type 0
 ReadingsKeep = (piece : List ℕ) (read : Statement) → ReadsAs piece read → FormKeeps read.form
+
+abbrev pub JobIsSmall : Job → Type 0
+JobIsSmall (job.Grammar _ size) = size ≤ 1000
+JobIsSmall (job.Ready _ _ _) = Unit {0}
+
+abbrev pub FormIsSmall : Form → Type 0
+FormIsSmall (form.Iterate _ work _) = JobIsSmall work
+FormIsSmall (form.Count work) = JobIsSmall work
+FormIsSmall (form.List work) = JobIsSmall work
+FormIsSmall (form.Draw work) = JobIsSmall work
+FormIsSmall _ = Unit {0}
+
+-- the size in a statement that is read is at most 1000
+abbrev pub ReadingsAreSmall : Type 0
+ReadingsAreSmall = (piece : List ℕ) (read : Statement) → ReadsAs piece read → FormIsSmall read.form

@@ -1,5 +1,5 @@
 //! Laws of what pieces read as.
-ghost use Rattle.spec_reader.specs.Laws.{OneReading, OneFault, SomeAnswer, NeverBoth, ReadingsKeep};
+ghost use Rattle.spec_reader.specs.Laws.{OneReading, OneFault, SomeAnswer, NeverBoth, ReadingsKeep, ReadingsAreSmall};
 
 /// A piece reads as at most one statement.
 pub fn a_piece_reads_as_one_statement()
@@ -17,7 +17,8 @@ pub fn a_piece_has_a_statement_or_a_fault()
     ensures never_both { NeverBoth }
 {}
 
-/// The rules in a statement that is read are a specification.
+/// The rules in a statement that is read are a specification, and its size is at most 1000.
 pub fn what_is_read_keeps_the_facts_of_a_specification()
-    ensures { ReadingsKeep }
+    ensures keeps { ReadingsKeep }
+    ensures small { ReadingsAreSmall }
 {}

@@ -127,22 +127,20 @@ fn repeat_rules(text: &mut Vec<u8>, count: usize) -> Result<(), AllocError> {
     Ok(())
 }
 
-#[test]
-fn each_token_of_a_statement_is_looked_at(rt: HostRuntime) -> Result<(), Fail> {
-    let alloc = rt.alloc();
+fn each_token_of_a_statement_is_looked_at(rt: &impl Abort, alloc: Global) -> Result<(), Fail> {
     let last = TOKENS.len() - 1;
     for (i, (start, end)) in TOKENS.iter().copied().enumerate() {
         assert!(rt; start < end && end <= TEXT.len());
         let column = start as u32 + 1;
         if i > 0 {
-            let cut = outcome(&rt, alloc, &TEXT[..start]);
+            let cut = outcome(rt, alloc, &TEXT[..start]);
             assert_eq!(rt; cut, Answer::Syntax(1, column));
         }
         let mut doubled = Vec::from_slice(alloc, &TEXT[..end])?;
         doubled.push(b' ')?;
         doubled.extend_from_slice(&TEXT[start..])?;
         let second = Answer::Syntax(1, end as u32 + 2);
-        assert_eq!(rt; outcome(&rt, alloc, doubled.as_slice()), second);
+        assert_eq!(rt; outcome(rt, alloc, doubled.as_slice()), second);
         let mut ended = Vec::from_slice(alloc, &TEXT[..start])?;
         ended.push(b';')?;
         ended.extend_from_slice(&TEXT[end..])?;
@@ -153,13 +151,12 @@ fn each_token_of_a_statement_is_looked_at(rt: HostRuntime) -> Result<(), Fail> {
         } else {
             Answer::Syntax(1, column)
         };
-        assert_eq!(rt; outcome(&rt, alloc, ended.as_slice()), wanted);
+        assert_eq!(rt; outcome(rt, alloc, ended.as_slice()), wanted);
     }
     Ok(())
 }
 
-#[test]
-fn faults_stand_where_the_table_says(rt: HostRuntime) -> Result<(), Fail> {
+fn faults_stand_where_the_table_says(rt: &impl Abort, alloc: Global) -> Result<(), Fail> {
     let rows: [(&[u8], Answer); 14] = [
         (TEXT, Answer::Read),
         (b";", Answer::Read),
@@ -177,12 +174,12 @@ fn faults_stand_where_the_table_says(rt: HostRuntime) -> Result<(), Fail> {
         (b"c\xff;", Answer::NotText),
     ];
     for (piece, wanted) in rows {
-        assert_eq!(rt; outcome(&rt, rt.alloc(), piece), wanted);
+        assert_eq!(rt; outcome(rt, alloc, piece), wanted);
     }
     Ok(())
 }
 
-const CASES: [Case; 18] = [
+const CASES: [Case; 23] = [
     Case {
         name: 1,
         depth: 0,
@@ -345,26 +342,79 @@ const CASES: [Case; 18] = [
         size: b"1",
         wanted: Answer::Limit(Which::Name),
     },
+    Case {
+        name: 1,
+        depth: 0,
+        arguments: 0,
+        after: b" xxxxxxxxxxxxxxxxxxxxxxxxxxxxxxxxx",
+        rules: 0,
+        size: b"1",
+        wanted: Answer::Syntax(1, 23),
+    },
+    Case {
+        name: 1,
+        depth: 0,
+        arguments: 0,
+        after: b" 340282366920938463463374607431768211456",
+        rules: 0,
+        size: b"1",
+        wanted: Answer::Syntax(1, 23),
+    },
+    Case {
+        name: 1,
+        depth: 0,
+        arguments: 0,
+        after: b", 340282366920938463463374607431768211456",
+        rules: 0,
+        size: b"1",
+        wanted: Answer::Syntax(1, 24),
+    },
+    Case {
+        name: 1,
+        depth: 0,
+        arguments: 0,
+        after: b"",
+        rules: 0,
+        size: b"xxxxxxxxxxxxxxxxxxxxxxxxxxxxxxxxx",
+        wanted: Answer::Syntax(1, 45),
+    },
+    Case {
+        name: 1,
+        depth: 0,
+        arguments: 0,
+        after: b", RRRRRRRrrrrrrr = Z",
+        rules: 63,
+        size: b"1",
+        wanted: Answer::Limit(Which::Rules),
+    },
 ];
 
-#[test]
-fn limits_are_tested_in_order(rt: HostRuntime) -> Result<(), Fail> {
+fn limits_are_tested_in_order(rt: &impl Abort, alloc: Global) -> Result<(), Fail> {
     for case in CASES {
-        let text = case.text(rt.alloc())?;
-        assert_eq!(rt; outcome(&rt, rt.alloc(), text.as_slice()), case.wanted);
+        let text = case.text(alloc)?;
+        assert_eq!(rt; outcome(rt, alloc, text.as_slice()), case.wanted);
     }
     Ok(())
 }
 
-#[test]
-fn a_piece_has_at_most_65536_bytes(rt: HostRuntime) -> Result<(), Fail> {
-    let mut piece = Vec::from_slice(rt.alloc(), b";")?;
+fn a_piece_has_at_most_65536_bytes(rt: &impl Abort, alloc: Global) -> Result<(), Fail> {
+    let mut piece = Vec::from_slice(alloc, b";")?;
     repeat(&mut piece, b" ", 65535)?;
-    assert_eq!(rt; outcome(&rt, rt.alloc(), piece.as_slice()), Answer::Read);
+    assert_eq!(rt; outcome(rt, alloc, piece.as_slice()), Answer::Read);
     piece.push(b' ')?;
     let wanted = Answer::Limit(Which::Statement);
-    assert_eq!(rt; outcome(&rt, rt.alloc(), piece.as_slice()), wanted);
+    assert_eq!(rt; outcome(rt, alloc, piece.as_slice()), wanted);
     Ok(())
+}
+
+/// The tables of what pieces are read as.
+#[test]
+fn the_table_of_readings(rt: HostRuntime) -> Result<(), Fail> {
+    let alloc = rt.alloc();
+    each_token_of_a_statement_is_looked_at(&rt, alloc)?;
+    faults_stand_where_the_table_says(&rt, alloc)?;
+    limits_are_tested_in_order(&rt, alloc)?;
+    a_piece_has_at_most_65536_bytes(&rt, alloc)
 }
 
 #[test]
