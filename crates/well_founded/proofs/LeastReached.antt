@@ -1,0 +1,125 @@
+-- Each least size that is found by recursion is that of a structure, where it is so for names.
+use Rattle.std.proofs.Common.{◌≡◌, ◌⊎◌, ℕ, suc, ◌+◌, ◌<◌, ◌≤◌, min, true, false, not, ◌&&◌, ◌||◌, List, length, Option, Some, None, refl, sym, ap, ◌∙◌, inl, inr, arith, true≢false, length-append}
+use Rattle.std.proofs.lemmas.Bool.{cases_lt, and_parts, and_from}
+use Rattle.std.specs.Option.{option_map_or}
+use Rattle.spec_syntax.specs.declared.statement.Universe.{Universe}
+use Rattle.spec_syntax.specs.declared.statement.Universe.TheVariants.{Labelled, Unlabelled}
+use Rattle.spec_syntax.specs.Expression as expr
+use Rattle.spec_syntax.specs.Expression.{Expression, Expressions, no_expressions, more_expressions}
+use Rattle.spec_syntax.specs.Rules.{symbol, right_side}
+use Rattle.spec_syntax.specs.Grammar.{Grammar}
+use Rattle.struct_model.specs.declared.tree.Form5.TheVariants as form
+use Rattle.struct_model.specs.Structure.{Structure, Eps, Atom, Named, Alt, Tup, Structures, no_parts, more_parts, labels, labels_of_parts, size}
+use Rattle.struct_model.specs.Membership.{is_of, are_of_each, argument, is_label, is_epsilon, is_atom}
+use Rattle.well_founded.specs.Sizes.{no_least}
+use Rattle.well_founded.specs.Least.{lesser, together, least_with, least_of_some, least_of_all}
+use Rattle.well_founded.proofs.LeastLaws.{names_from}
+
+-- a structure of this size, or of 1001 or more where it is 1001
+pub record IsReached (g : Grammar) (e : Expression) (n : ℕ) : Type 0 where
+  pub reached : Structure
+  pub is : is_of g e reached ≡ true
+  pub has_size : min (size reached) no_least ≡ n
+
+record AreReached (g : Grammar) (es : Expressions) (n : ℕ) : Type 0 where
+  reached : Structures
+  are : are_of_each g es reached ≡ true
+  have_size : min (length (labels_of_parts reached)) no_least ≡ n
+
+record IsArgumentReached (g : Grammar) (es : Expressions) (n : ℕ) : Type 0 where
+  place : ℕ
+  found : Expression
+  at : argument es (suc place) ≡ Some found
+  one : IsReached g found n
+
+-- each universe has a label
+pub some_label : (universe : Universe) → (l : ℕ) × (is_label universe l ≡ true)
+some_label Unlabelled = (0, refl)
+some_label Labelled = (1, refl)
+
+lesser_cases : (a b : Option ℕ) (n : ℕ) → lesser a b ≡ Some n → (a ≡ Some n) ⊎ (b ≡ Some n)
+lesser_cases None b n h = inr h
+lesser_cases (Some x) None n h = inl h
+lesser_cases (Some x) (Some y) n h = let same : min x y ≡ n = cc in by (cases_lt x y) same
+  where
+    by : (x < y) ⊎ (y ≤ x) → min x y ≡ n → (Some x ≡ Some n) ⊎ (Some y ≡ Some n)
+    by (inl low) same = inl (ap Some (omega arith))
+    by (inr high) same = inr (ap Some (omega arith))
+
+record AreTogether (a b : Option ℕ) (n : ℕ) : Type 0 where
+  first : ℕ
+  second : ℕ
+  is_first : a ≡ Some first
+  is_second : b ≡ Some second
+  sum : min (first + second) no_least ≡ n
+
+together_parts : (a b : Option ℕ) (n : ℕ) → together a b ≡ Some n → AreTogether a b n
+together_parts None b n h = cc
+together_parts (Some x) None n h = cc
+together_parts (Some x) (Some y) n h = record { first = x; second = y; is_first = refl; is_second = refl; sum = cc }
+
+size_together : (x y m k n : ℕ) → min x no_least ≡ m → min y no_least ≡ k → min (m + k) no_least ≡ n → min (x + y) no_least ≡ n
+size_together x y m k n p q r = omega arith
+
+module _ (g : Grammar) where
+  -- a rule's name has a structure of each size that its right side has one of
+  pub name_reached : (name : List ℕ) (n m : ℕ) (right : Expression) → symbol g.rules name ≡ Some n → right_side g.rules n ≡ Some right
+      → IsReached g right m → IsReached g (expr.Name name) m
+  name_reached name n m right numbered sided one = by right one.reached sided one.is one.has_size
+    where
+      told : (right : Expression) (s : Structure) → right_side g.rules n ≡ Some right → not (is_epsilon right || is_atom right) ≡ true → is_of g right s ≡ true
+          → min (size s) no_least ≡ m → IsReached g (expr.Name name) m
+      told right s sided other of has_size = record {
+        reached = Named n s;
+        is = names_from g name n right (λ side. not (is_epsilon side || is_atom side) && is_of g side s) numbered sided (and_from _ _ other of);
+        has_size = has_size;
+      }
+
+      by : (right : Expression) (s : Structure) → right_side g.rules n ≡ Some right → is_of g right s ≡ true → min (size s) no_least ≡ m → IsReached g (expr.Name name) m
+      by expr.Epsilon (Eps x) sided of has_size = record { reached = Eps n; is = names_from g name n expr.Epsilon is_epsilon numbered sided refl; has_size = has_size }
+      by expr.Epsilon s sided of has_size = absurd (true≢false (sym of))
+      by expr.Atom (Atom x l) sided of has_size =
+          record { reached = Atom n l; is = and_from _ _ (names_from g name n expr.Atom is_atom numbered sided refl) (and_parts _ _ of).1; has_size = has_size }
+      by expr.Atom s sided of has_size = absurd (true≢false (sym of))
+      by right s sided of has_size = told right s sided refl of has_size
+
+  module _ (sizes : List ℕ → Option ℕ) where
+    -- each size that is said of a name is that of a structure of it
+    abbrev pub IsSound : Type 0
+    IsSound = (name : List ℕ) (n : ℕ) → sizes name ≡ Some n → IsReached g (expr.Name name) n
+
+    module _ (sound : IsSound) where
+      mutual
+        pub is_reached : (e : Expression) (n : ℕ) → least_with sizes e ≡ Some n → IsReached g e n
+        is_reached expr.Epsilon n h = record { reached = Eps 0; is = refl; has_size = let same : 0 ≡ n = cc in same }
+        is_reached expr.Atom n h = let one = some_label g.universe in record { reached = Atom 0 one.0; is = one.1; has_size = let same : 1 ≡ n = cc in same }
+        is_reached (expr.Name name) n h = sound name n h
+        is_reached (expr.Union es) n h =
+            let found = some_reached es n h in
+            record {
+              reached = Alt (suc found.place) found.one.reached;
+              is = ap (λ o. option_map_or (λ e. is_of g e found.one.reached) o false) found.at ∙ found.one.is;
+              has_size = found.one.has_size;
+            }
+        is_reached (expr.Prod es) n h = let found = all_reached es n h in record { reached = Tup form.Prod found.reached; is = found.are; has_size = found.have_size }
+        is_reached (expr.Many kind e card) n h = cc
+
+        some_reached : (es : Expressions) (n : ℕ) → least_of_some sizes es ≡ Some n → IsArgumentReached g es n
+        some_reached no_expressions n h = cc
+        some_reached (more_expressions e es) n h = elim (lesser_cases (least_with sizes e) (least_of_some sizes es) n h) [
+          | inl here ↦ record { place = 0; found = e; at = refl; one = is_reached e n here }
+          | inr later ↦ let rest = some_reached es n later in record { place = suc rest.place; found = rest.found; at = rest.at; one = rest.one }
+        ]
+
+        all_reached : (es : Expressions) (n : ℕ) → least_of_all sizes es ≡ Some n → AreReached g es n
+        all_reached no_expressions n h = record { reached = no_parts; are = refl; have_size = let same : 0 ≡ n = cc in same }
+        all_reached (more_expressions e es) n h =
+            let parts = together_parts (least_with sizes e) (least_of_all sizes es) n h in
+            let one = is_reached e parts.first parts.is_first in
+            let rest = all_reached es parts.second parts.is_second in
+            record {
+              reached = more_parts one.reached rest.reached;
+              are = and_from _ _ one.is rest.are;
+              have_size = ap (λ (k : ℕ). min k no_least) (length-append (labels one.reached) (labels_of_parts rest.reached))
+                  ∙ size_together (size one.reached) (length (labels_of_parts rest.reached)) parts.first parts.second n one.has_size rest.have_size parts.sum;
+            }

@@ -1,0 +1,182 @@
+-- What stands in the tables of a grammar's nodes.
+use Rattle.std.proofs.Common.{◌≡◌, ℕ, zero, suc, ◌+◌, ◌-◌, ◌<◌, ◌≤◌, List, [], ◌∷◌, length, get_or, take, slice_get, Option, Some, None, option_map, option_and_then, unwrap_or, refl, sym, ap, ◌∙◌, arith, length-append}
+use Rattle.std.specs.Option.{option_map_or, option_or}
+use Rattle.std.proofs.lemmas.Option.{slice_get_within, slice_get_read}
+use Rattle.spec_syntax.specs.declared.expr.Kind.TheVariants as kind
+use Rattle.spec_syntax.specs.Expression as expr
+use Rattle.spec_syntax.specs.Expression.{Expression, preorder, nodes}
+use Rattle.spec_syntax.specs.Rules.{Rules, symbol, right_side, all_nodes}
+use Rattle.spec_syntax.proofs.RulesLemmas.{symbol-within}
+use Rattle.well_founded.specs.declared.node.Node.{Node}
+use Rattle.well_founded.specs.declared.node.NodeKind.TheVariants as told
+use Rattle.well_founded.specs.Names.{name_without_rule, undefined_name}
+use Rattle.well_founded.specs.Nodes.{node_at, right_node, children_of}
+use Rattle.well_founded.specs.NodeView.{arguments_of}
+use Rattle.well_founded.specs.NodeKinds.{kind_of, name_of, name_at, children_at, arguments_at}
+use Rattle.well_founded.specs.NodeTable.{node_kind, node_children, node_rule, node_of, nodes_from, nodes_of, right_nodes_from}
+use Rattle.well_founded.proofs.NodesLaws.{child_node, child_is, children_few, right_node_is, name_node_rule}
+use Rattle.well_founded.proofs.NodeSteps.{length-nodes_from}
+
+kind-node_of : (rules : Rules) (n : ℕ) (e : Expression) → node_kind (node_of rules n e) ≡ kind_of e
+kind-node_of rules n expr.Epsilon = refl
+kind-node_of rules n expr.Atom = refl
+kind-node_of rules n (expr.Name name) = refl
+kind-node_of rules n (expr.Union es) = refl
+kind-node_of rules n (expr.Prod es) = refl
+kind-node_of rules n (expr.Many kind element card) = refl
+
+children-node_of : (rules : Rules) (n : ℕ) (e : Expression) → node_children (node_of rules n e) ≡ children_of n e
+children-node_of rules n expr.Epsilon = refl
+children-node_of rules n expr.Atom = refl
+children-node_of rules n (expr.Name name) = refl
+children-node_of rules n (expr.Union es) = refl
+children-node_of rules n (expr.Prod es) = refl
+children-node_of rules n (expr.Many kind element card) = refl
+
+get-nodes_from : (rules : Rules) (n i m : ℕ) (es : List Expression) → n + i ≡ m → slice_get (nodes_from rules n es) i ≡ option_map (node_of rules m) (slice_get es i)
+get-nodes_from rules n i m [] number = refl
+get-nodes_from rules n zero m (e ∷ es) number = let same : n ≡ m = omega arith in ap (λ (j : ℕ). Some (node_of rules j e)) same
+get-nodes_from rules n (suc i) m (e ∷ es) number = get-nodes_from rules (suc n) i m es (omega arith)
+
+-- a node of the table, with its expression
+pub record TableNode (rules : Rules) (n : ℕ) (x : Node) : Type 0 where
+  pub e : Expression
+  pub at : node_at rules n ≡ Some e
+  pub is : x ≡ node_of rules n e
+
+is_name : (e : Expression) → kind_of e ≡ told.Rule → (name : List ℕ) × (e ≡ expr.Name name)
+is_name expr.Epsilon h = absurd (cc)
+is_name expr.Atom h = absurd (cc)
+is_name (expr.Name name) h = (name, refl)
+is_name (expr.Union es) h = absurd (cc)
+is_name (expr.Prod es) h = absurd (cc)
+is_name (expr.Many kind.Sequence element card) h = absurd (cc)
+is_name (expr.Many kind.Set element card) h = absurd (cc)
+is_name (expr.Many kind.PowerSet element card) h = absurd (cc)
+is_name (expr.Many kind.Cycle element card) h = absurd (cc)
+
+all_named : (rules : Rules) → undefined_name rules None ≡ None → name_without_rule rules ≡ None
+all_named rules h = by (name_without_rule rules) refl h
+  where
+    by : (found : Option (List ℕ)) → name_without_rule rules ≡ found → option_or found None ≡ None → name_without_rule rules ≡ None
+    by None is h = is
+    by (Some name) is h = absurd (cc)
+
+module _ (rules : Rules) (table : List Node) (is : table ≡ nodes_of rules) where
+  pub length-table : length table ≡ length (all_nodes rules)
+  length-table = ap length is ∙ length-nodes_from rules 0 (all_nodes rules)
+
+  pub table_node : (n : ℕ) (x : Node) → n < length (all_nodes rules) → x ≡ get_or table n x → TableNode rules n x
+  table_node n x within read = by (node_at rules n) refl
+    where
+      got : slice_get (nodes_of rules) n ≡ Some x
+      got = ap (λ xs. slice_get xs n) (sym is) ∙ slice_get_read table (length table) n x refl (omega (arith, length-table)) read
+
+      mapped : slice_get (nodes_of rules) n ≡ option_map (node_of rules n) (node_at rules n)
+      mapped = get-nodes_from rules 0 n n (all_nodes rules) (omega arith)
+
+      by : (found : Option Expression) → node_at rules n ≡ found → TableNode rules n x
+      by None at =
+          let no : None ≡ Some x = sym (mapped ∙ ap (option_map (node_of rules n)) at) ∙ got in
+          absurd (cc)
+      by (Some e) at =
+          let some : Some (node_of rules n e) ≡ Some x = sym (mapped ∙ ap (option_map (node_of rules n)) at) ∙ got in
+          record { e = e; at = at; is = cc }
+
+  pub table_kind : (n : ℕ) (x : Node) → n < length (all_nodes rules) → x ≡ get_or table n x → option_map kind_of (node_at rules n) ≡ Some (node_kind x)
+  table_kind n x within read =
+      let node = table_node n x within read in
+      ap (option_map kind_of) node.at ∙ ap Some (sym (ap node_kind node.is ∙ kind-node_of rules n node.e))
+
+  pub table_children : (n : ℕ) (x : Node) → n < length (all_nodes rules) → x ≡ get_or table n x → node_children x ≡ children_at rules n
+  table_children n x within read =
+      let node = table_node n x within read in
+      ap node_children node.is ∙ children-node_of rules n node.e ∙ sym (ap (λ found. option_map_or (children_of n) found []) node.at)
+
+  pub table_child : (n i m : ℕ) (x : Node) → n < length (all_nodes rules) → x ≡ get_or table n x → slice_get (node_children x) i ≡ Some m
+      → node_at rules m ≡ slice_get (arguments_at rules n) i
+  table_child n i m x within read child =
+      let node = table_node n x within read in
+      let inside : slice_get (children_of n node.e) i ≡ Some m =
+      ap (λ places. slice_get places i) (sym (ap node_children node.is ∙ children-node_of rules n node.e)) ∙ child in
+      child_node rules n node.e i m node.at inside ∙ sym (ap (λ found. slice_get (option_map_or arguments_of found []) i) node.at)
+
+  pub table_child_within : (n i m : ℕ) (x : Node) → n < length (all_nodes rules) → x ≡ get_or table n x → slice_get (node_children x) i ≡ Some m → m < length (all_nodes rules)
+  table_child_within n i m x within read child =
+      let node = table_node n x within read in
+      let inside : slice_get (children_of n node.e) i ≡ Some m =
+      ap (λ places. slice_get places i) (sym (ap node_children node.is ∙ children-node_of rules n node.e)) ∙ child in
+      let found : (f : Expression) × (node_at rules m ≡ Some f) = child_is rules n node.e i m node.at inside in
+      slice_get_within (all_nodes rules) m found.0 found.1
+
+  pub table_children_few : (n : ℕ) (x : Node) → n < length (all_nodes rules) → x ≡ get_or table n x → length (node_children x) ≤ length (all_nodes rules)
+  table_children_few n x within read =
+      let node = table_node n x within read in
+      omega (arith, ap length (ap node_children node.is ∙ children-node_of rules n node.e), children_few rules n node.e node.at)
+
+  pub table_rule : (n : ℕ) (x : Node) → n < length (all_nodes rules) → x ≡ get_or table n x → undefined_name rules None ≡ None
+      → option_map kind_of (node_at rules n) ≡ Some told.Rule → option_and_then (symbol rules) (name_at rules n) ≡ Some (node_rule x)
+  table_rule n x within read named rule =
+      let node = table_node n x within read in
+      let kind : Some (kind_of node.e) ≡ Some told.Rule = sym (ap (option_map kind_of) node.at) ∙ rule in
+      let name : (name : List ℕ) × (node.e ≡ expr.Name name) = is_name node.e (cc) in
+      let found : (number : ℕ) × (symbol rules name.0 ≡ Some number) =
+      name_node_rule rules n name.0 (all_named rules named) (node.at ∙ ap Some name.1) in
+      ap (λ e. option_and_then (symbol rules) (option_and_then name_of e)) (node.at ∙ ap Some name.1) ∙ found.1
+      ∙ ap Some (sym (ap node_rule (node.is ∙ ap (node_of rules n) name.1) ∙ ap (λ number. unwrap_or number 0) found.1))
+
+-- the number of a rule that a node names is the number of a rule
+pub named_within : (rules : Rules) (n number : ℕ) → option_and_then (symbol rules) (name_at rules n) ≡ Some number → (1 ≤ number) × (number ≤ length rules)
+named_within rules n number found = by (name_at rules n) found
+  where
+    by : (name : Option (List ℕ)) → option_and_then (symbol rules) name ≡ Some number → (1 ≤ number) × (number ≤ length rules)
+    by None h = absurd (cc)
+    by (Some name) h = symbol-within rules name number h
+
+-- ---- the table of right sides
+
+pub get-right_nodes : (n i : ℕ) (rules : Rules) → i < length rules → slice_get (right_nodes_from n rules) i ≡ Some (n + length (all_nodes (take i rules)))
+get-right_nodes n i [] within = absurd (omega arith)
+get-right_nodes n zero (rule ∷ rules) within = ap Some (same n)
+  where
+    same : (m : ℕ) → m ≡ m + 0
+    same m = omega arith
+get-right_nodes n (suc i) (rule ∷ rules) within =
+    get-right_nodes (n + nodes rule.1) i rules (omega arith)
+    ∙ ap Some (omega (arith, length-append (preorder rule.1) (all_nodes (take i rules))))
+
+pub length-right_nodes : (n : ℕ) (rules : Rules) → length (right_nodes_from n rules) ≡ length rules
+length-right_nodes n [] = refl
+length-right_nodes n (rule ∷ rules) = ap suc (length-right_nodes (n + nodes rule.1) rules)
+
+some_right : (rules : Rules) (sym : ℕ) → 1 ≤ sym → sym ≤ length rules → (right : Expression) × (right_side rules sym ≡ Some right)
+some_right rules zero low high = absurd (omega arith)
+some_right [] (suc i) low high = absurd (omega arith)
+some_right (rule ∷ rules) (suc zero) low high = (rule.1, refl)
+some_right (rule ∷ rules) (suc (suc i)) low high = some_right rules (suc i) (omega arith) (omega arith)
+
+module _ (rules : Rules) (table : List ℕ) (is : table ≡ right_nodes_from 0 rules) where
+  pub length-right_table : length table ≡ length rules
+  length-right_table = ap length is ∙ length-right_nodes 0 rules
+
+  right_read : (i x : ℕ) → i < length rules → x ≡ get_or table i x → Some (0 + length (all_nodes (take i rules))) ≡ Some x
+  right_read i x within read =
+      sym (get-right_nodes 0 i rules within) ∙ ap (λ xs. slice_get xs i) (sym is) ∙ slice_get_read table (length table) i x refl (omega (arith, length-right_table)) read
+
+  pub table_right : (sym x : ℕ) → 1 ≤ sym → sym ≤ length rules → x ≡ get_or table (sym - 1) x → x ≡ right_node rules sym
+  table_right zero x low high read = absurd (omega arith)
+  table_right (suc i) x low high read =
+      let place : suc i - 1 ≡ i = omega arith in
+      let there : Some (0 + length (all_nodes (take i rules))) ≡ Some x = right_read i x (omega arith) (read ∙ ap (λ (j : ℕ). get_or table j x) place) in
+      let same : 0 + length (all_nodes (take i rules)) ≡ x = cc in
+      omega arith
+
+  pub table_right_side : (sym x : ℕ) → 1 ≤ sym → sym ≤ length rules → x ≡ get_or table (sym - 1) x → node_at rules x ≡ right_side rules sym
+  table_right_side number x low high read =
+      let right = some_right rules number low high in
+      ap (node_at rules) (table_right number x low high read) ∙ right_node_is rules number right.0 right.1 ∙ sym right.1
+
+  pub table_right_within : (sym x : ℕ) → 1 ≤ sym → sym ≤ length rules → x ≡ get_or table (sym - 1) x → x < length (all_nodes rules)
+  table_right_within number x low high read =
+      let right = some_right rules number low high in
+      slice_get_within (all_nodes rules) x right.0 (table_right_side number x low high read ∙ right.1)

@@ -1,0 +1,5 @@
+use Rattle.well_founded.proofs.GraphCounts.{CountsSo}
+use Rattle.well_founded.proofs.graph.ranks.Given as goal
+
+abbrev pub invariant-loop-i : goal.invariant-loop-i
+invariant-loop-i l = CountsSo l.graph l.i l.ranks.items

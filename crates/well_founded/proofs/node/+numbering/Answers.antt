@@ -1,0 +1,25 @@
+use Rattle.std.proofs.Common.{◌≤◌, ◌+◌, drop, arith, ◌∙◌}
+use Rattle.spec_syntax.specs.Expression.{nodes, nodes_of_all, preorder, preorder_of_all, expressions_of}
+use Rattle.well_founded.proofs.NodeSteps.{nodes_step, nodes_of_one, preorder_step, block_step, grown_length}
+use Rattle.well_founded.proofs.node.+numbering.Goals as goal
+
+pub push_all_nodes-push_nodes-requires : goal.push_all_nodes-push_nodes-requires
+push_all_nodes-push_nodes-requires t c =
+    let small : nodes c.expr-item.result ≤ nodes_of_all (expressions_of c.args.exprs.now) = nodes_of_one c.args.exprs.now c.loop-expr.expr-index c.expr-item.result c.loop-expr-test.true c.expr-item.is in
+    (omega (arith, c.decreases, small), omega (arith, nodes_step c.args.exprs.now c.loop-expr.expr-index c.expr-item.result c.loop-expr-test.true c.expr-item.is))
+
+pub push_all_nodes-loop-expr-preserved : goal.push_all_nodes-loop-expr-preserved
+push_all_nodes-loop-expr-preserved t c =
+    let rules = c.args.spec.now in
+    let exprs = c.args.exprs.now in
+    let i = c.loop-expr.expr-index in
+    let expr = c.expr-item.result in (
+      c.loop-expr.invariant.0
+          ∙ block_step rules c.loop-expr.table.items c.push_nodes.new.table.items (preorder expr) (preorder_of_all (expressions_of (drop (i + 1) exprs)))
+          (preorder_of_all (expressions_of (drop i exprs))) c.in_ok-push_nodes.ensures (preorder_step exprs i expr c.loop-expr-test.true c.expr-item.is),
+      omega (
+        arith,
+        grown_length rules c.loop-expr.table.items c.push_nodes.new.table.items (preorder expr) c.in_ok-push_nodes.ensures,
+        nodes_step exprs i expr c.loop-expr-test.true c.expr-item.is,
+      ),
+    )

@@ -1,0 +1,48 @@
+-- The names that rules use, and those without a rule.
+use Rattle.std.specs.Prelude.{ℕ, Bool, true, false, not, List, [], ◌∷◌, Option, Some, None, is_some, if◌then◌else◌, find}
+use Rattle.std.specs.Option.{option_or}
+use Rattle.std.specs.List.{list_all, flat_map}
+use Rattle.spec_syntax.specs.Expression.{Expression, Name, Many, preorder}
+use Rattle.spec_syntax.specs.Rules.{Rules, symbol}
+
+-- the name, where the expression is one
+abbrev pub name_in : Expression → List (List ℕ)
+name_in (Name name) = name ∷ []
+name_in e = []
+
+-- the names in the expression, from left to right
+abbrev pub used_names : Expression → List (List ℕ)
+used_names e = flat_map name_in (preorder e)
+
+-- the names in the right sides, in written order
+abbrev pub names_used_in : Rules → List (List ℕ)
+names_used_in rules = flat_map (λ rule. used_names rule.1) rules
+
+abbrev pub has_rule : Rules → List ℕ → Bool
+has_rule rules name = is_some (symbol rules name)
+
+-- the first name in the right sides that has no rule
+abbrev pub name_without_rule : Rules → Option (List ℕ)
+name_without_rule rules = find (λ name. not (has_rule rules name)) (names_used_in rules)
+
+-- the class symbol, where there is one and it has no rule
+abbrev pub symbol_without_rule : Rules → Option (List ℕ) → Option (List ℕ)
+symbol_without_rule rules None = None
+symbol_without_rule rules (Some start) = if has_rule rules start then None else Some start
+
+-- the first name in written order that has no rule. The class symbol stands last
+abbrev pub undefined_name : Rules → Option (List ℕ) → Option (List ℕ)
+undefined_name rules start = option_or (name_without_rule rules) (symbol_without_rule rules start)
+
+-- is the expression itself no container
+abbrev pub is_no_container : Expression → Bool
+is_no_container (Many kind element card) = false
+is_no_container e = true
+
+-- does no container stand in the expression
+abbrev pub is_plain : Expression → Bool
+is_plain e = list_all is_no_container (preorder e)
+
+-- does no container stand in the rules
+abbrev pub are_plain : Rules → Bool
+are_plain rules = list_all (λ rule. is_plain rule.1) rules

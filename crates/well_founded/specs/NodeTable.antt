@@ -1,0 +1,53 @@
+-- The nodes of the code, and the tables of them.
+use Rattle.std.specs.Prelude.{ℕ, suc, ◌+◌, List, [], ◌∷◌, unwrap_or}
+use Rattle.spec_syntax.specs.Expression as expr
+use Rattle.spec_syntax.specs.Expression.{Expression, nodes}
+use Rattle.spec_syntax.specs.Rules.{Rules, symbol, all_nodes}
+use Rattle.well_founded.specs.declared.node.Node.{Node}
+use Rattle.well_founded.specs.declared.node.Node.TheVariants as node
+use Rattle.well_founded.specs.declared.node.NodeKind.{NodeKind}
+use Rattle.well_founded.specs.declared.node.NodeKind.TheVariants as told
+use Rattle.well_founded.specs.Nodes.{places_from}
+use Rattle.well_founded.specs.NodeKinds.{container}
+
+-- what a node of the code is, the nodes directly inside it, and the rule that it names, or 0
+abbrev pub node_kind : Node → NodeKind
+node_kind node.Epsilon = told.Epsilon
+node_kind node.Atom = told.Atom
+node_kind (node.Rule sym) = told.Rule
+node_kind (node.Union places) = told.Union
+node_kind (node.Prod places) = told.Prod
+node_kind (node.Many kind place card) = container kind
+
+abbrev pub node_children : Node → List ℕ
+node_children (node.Union places) = places
+node_children (node.Prod places) = places
+node_children (node.Many kind place card) = place ∷ []
+node_children a = []
+
+abbrev pub node_rule : Node → ℕ
+node_rule (node.Rule sym) = sym
+node_rule a = 0
+
+-- the node of the code for the expression, which is node number n. A name without a rule has the number 0
+abbrev pub node_of : Rules → ℕ → Expression → Node
+node_of rules n expr.Epsilon = node.Epsilon
+node_of rules n expr.Atom = node.Atom
+node_of rules n (expr.Name name) = node.Rule (unwrap_or (symbol rules name) 0)
+node_of rules n (expr.Union arguments) = node.Union (places_from (n + 1) arguments)
+node_of rules n (expr.Prod arguments) = node.Prod (places_from (n + 1) arguments)
+node_of rules n (expr.Many kind element card) = node.Many kind (n + 1) card
+
+-- the nodes of these expressions, the first of which is node number n
+abbrev pub nodes_from : Rules → ℕ → List Expression → List Node
+nodes_from rules n [] = []
+nodes_from rules n (e ∷ es) = node_of rules n e ∷ nodes_from rules (suc n) es
+
+-- the nodes of the rules
+abbrev pub nodes_of : Rules → List Node
+nodes_of rules = nodes_from rules 0 (all_nodes rules)
+
+-- the nodes of the right sides of these rules, the first of which is node number n
+abbrev pub right_nodes_from : ℕ → Rules → List ℕ
+right_nodes_from n [] = []
+right_nodes_from n (rule ∷ rules) = n ∷ right_nodes_from (n + nodes rule.1) rules

@@ -1,0 +1,129 @@
+//! The check of a grammar.
+ghost use Rattle.std.specs.Prelude.{◌≡◌, ◌≢◌, ℕ, ◌≤◌, ◌<◌, Some, None, length, position, is_none, IfOk, IfErr, IfSome, All, IsTrue, Option, List};
+ghost use Rattle.std.specs.Option.{option_copied, option_and_then};
+ghost use Rattle.spec_syntax.specs.Rules.{symbol, is_spec, all_nodes, rule_name};
+ghost use Rattle.well_founded.specs.Names.{are_plain, undefined_name, name_without_rule};
+ghost use Rattle.well_founded.specs.Least.{AreSizes, IsSmall, least_with, size_of_name};
+ghost use Rattle.well_founded.specs.NodeTable.{right_nodes_from};
+ghost use Rattle.well_founded.specs.SameSize.{same_size_graph};
+ghost use Rattle.well_founded.specs.Graph.{IsGraph};
+ghost use Rattle.well_founded.specs.WellFounded.{IsWellFounded, IsCulprit, Checks};
+ghost use Rattle.well_founded.specs.Search.{IsFirstRound, IsNoRound};
+
+use crate::grammar::checked;
+use crate::graph::{leads_to_itself, ranks};
+use crate::least::{NO_LEAST, least_sizes};
+use crate::leasts::node_leasts;
+use crate::names::undefined_name;
+use crate::node::{nodes_of_rules, right_nodes};
+use crate::same_size::same_size_graph;
+use crate::{Grammar, Refused};
+use seq::Seq;
+use spec_syntax::{Name, Spec, Universe};
+use std::alloc::{AllocError, Global};
+
+/// The place, from 0, of the first rule without a structure.
+fn first_without(sizes: &[Option<u32>]) -> Option<usize>
+    ensures { result ≡ position is_none sizes.now }
+{
+    sizes.iter().position(|size| size.is_none())
+}
+
+/// The place, from 0, of the first of the nodes that lead to themselves.
+fn first_round(
+    alloc: Global,
+    graph: &[Seq<u32>],
+    roots: &[u32],
+) -> Result<Option<usize>, AllocError>
+    requires graph { IsGraph graph.now }
+    requires few { length graph.now ≤ 128 }
+    requires roots { All (λ root. root < length graph.now) roots.now }
+    ensures found { IfOk result (λ found. IfSome found (λ place. IsFirstRound graph.now roots.now place)) }
+    ensures none { IfOk result (λ found. found ≡ None → IsNoRound graph.now roots.now) }
+{
+    for place in 0..roots.len() {
+        if leads_to_itself(alloc, graph, roots[place])? {
+            return Ok(Some(place));
+        }
+    }
+    Ok(None)
+}
+
+/// The number of the rule that the class symbol names.
+fn number_of(spec: &Spec, start: Option<&Name>) -> Option<u32>
+    ensures value { result ≡ option_and_then (symbol spec.now) (option_copied start.entry) }
+    ensures within { IfSome result (λ sym. (1 ≤ sym) × (sym ≤ length spec.now)) }
+{
+    match start {
+        Some(name) => spec.find(name.as_slice()),
+        None => None,
+    }
+}
+
+/// The tables of a grammar whose rules have names and structures, or the refusal of an endless rule.
+fn check_sized(
+    alloc: Global,
+    spec: &Spec,
+    sizes: &[Option<u32>],
+    universe: Universe,
+    start: Option<u32>,
+) -> Result<Grammar, Refused>
+    requires spec { IsTrue (is_spec spec.now) }
+    requires plain { IsTrue (are_plain spec.now) }
+    requires named { name_without_rule spec.now ≡ None }
+    requires sizes { AreSizes spec.now sizes.now }
+    requires small { All IsSmall sizes.now }
+    requires productive { position is_none sizes.now ≡ None }
+    requires start { IfSome start (λ sym. (1 ≤ sym) × (sym ≤ length spec.now)) }
+    ensures rules { IfOk result (λ grammar. grammar.rules ≡ spec.now) }
+    ensures universe { IfOk result (λ grammar. grammar.universe ≡ universe) }
+    ensures start { IfOk result (λ grammar. grammar.start ≡ start) }
+    ensures passes { IfOk result (λ _. IsWellFounded (record { rules = spec.now; universe = universe })) }
+    ensures refused { IfErr result (λ refused. refused ≢ Refused.Memory → (given : Option (List ℕ)) → undefined_name spec.now given ≡ None
+        → IsCulprit (record { rules = spec.now; universe = universe }) given refused) }
+{
+    let graph = same_size_graph(alloc, spec, sizes)?;
+    let roots = right_nodes(alloc, spec)?;
+    if let Some(place) = first_round(alloc, &graph, &roots)? {
+        let name = Name::from_slice(alloc, spec.name(place as u32 + 1).as_slice())?;
+        return Err(Refused::Endless(name, sizes[place].unwrap_or(NO_LEAST)));
+    }
+    let ranks = ranks(alloc, &graph)?;
+    let leasts = node_leasts(alloc, spec, sizes)?;
+    let nodes = nodes_of_rules(alloc, spec)?;
+    let rules = spec.copy(alloc)?;
+    Ok(checked(rules, universe, start, nodes, roots, leasts, ranks))
+}
+
+/// The grammar of these rules in this universe, whose start is the rule that `start` names, where it is well founded and
+/// the start, if given, has a rule.
+///
+/// # Errors
+///
+/// Otherwise the refusal that names the culprit, in this order over all rules: `Undefined` names the first name in written
+/// order without a rule, the start last; `Unproductive` the first rule without a structure; `Endless` the first rule that
+/// has a structure strictly inside which stands a structure of the same rule and size. Or memory is wanting.
+pub fn check(
+    alloc: Global,
+    spec: &Spec,
+    start: Option<&Name>,
+    universe: Universe,
+) -> Result<Grammar, Refused>
+    requires plain { IsTrue (are_plain spec.now) }
+    ensures rules { IfOk result (λ grammar. grammar.rules ≡ spec.now) }
+    ensures universe { IfOk result (λ grammar. grammar.universe ≡ universe) }
+    ensures start { IfOk result (λ grammar. grammar.start ≡ option_and_then (symbol spec.now) (option_copied start.entry)) }
+    ensures passes { IfOk result (λ _. Checks (record { rules = spec.now; universe = universe }) (option_copied start.entry) None) }
+    ensures refused { IfErr result (λ refused. refused ≢ Refused.Memory → IsCulprit (record { rules = spec.now; universe = universe }) (option_copied start.entry) refused) }
+{
+    if let Some(name) = undefined_name(spec, start) {
+        let name = Name::from_slice(alloc, name.as_slice())?;
+        return Err(Refused::Undefined(name));
+    }
+    let sizes = least_sizes(alloc, spec)?;
+    if let Some(place) = first_without(&sizes) {
+        let name = Name::from_slice(alloc, spec.name(place as u32 + 1).as_slice())?;
+        return Err(Refused::Unproductive(name));
+    }
+    check_sized(alloc, spec, &sizes, universe, number_of(spec, start))
+}
