@@ -3,11 +3,10 @@ use Rattle.std.specs.Prelude.{◌≡◌, ℕ, zero, suc, ◌+◌, ◌-◌, List,
 use Rattle.std.specs.List.{flat_map, filter, range_with_len}
 use Rattle.std.proofs.Common.{arith, ap, ◌∙◌}
 use Rattle.std.proofs.lemmas.List.{append-nil}
-use Rattle.spec_syntax.specs.Expression.{Expression, Expressions, more_expressions}
 use Rattle.struct_model.specs.Structure.{Structure}
 use Rattle.listing_laws.specs.Splits.{Split, taking, leaving, begins_above, splits}
-use Rattle.listing_laws.specs.Lister.{Names, by_splits, list_with, list_components}
-use Rattle.listing_laws.specs.BySize.{list_of_size, components_of_size, by_sizes}
+use Rattle.listing_laws.specs.Lister.{by_splits}
+use Rattle.listing_laws.specs.BySize.{by_sizes}
 
 -- the split of n zeros that takes so many
 abbrev pub of_zeros : ℕ → ℕ → Split
@@ -60,8 +59,3 @@ flat_map-map f g (x ∷ xs) = ap (λ others. f (g x) ++ others) (flat_map-map f 
 pub by_splits-by_sizes : (first : List ℕ → List Structure) (others : List ℕ → List (List Structure)) (n : ℕ)
     → by_splits first others (replicate n 0) ≡ by_sizes (λ size. first (replicate size 0)) (λ size. others (replicate size 0)) n
 by_splits-by_sizes first others n = ap (flat_map _) (splits-replicate n) ∙ flat_map-map _ (of_zeros n) (range_with_len 0 (n + 1))
-
--- the lists of components at a size are those by the size of the first one
-pub components-by_sizes : (names : Names) (e : Expression) (es : Expressions) (n : ℕ)
-    → components_of_size names (more_expressions e es) n ≡ by_sizes (list_of_size names e) (components_of_size names es) n
-components-by_sizes names e es n = by_splits-by_sizes (list_with names e) (list_components names es) n

@@ -101,7 +101,7 @@ module _ (g : Grammar) where
   parts_back no_parts = refl
   parts_back (more_parts s ps) = ap (more_parts s) (parts_back ps)
 
-  list_back : (ss : List Structure) → part_list (parts_of ss) ≡ ss
+  pub list_back : (ss : List Structure) → part_list (parts_of ss) ≡ ss
   list_back [] = refl
   list_back (s ∷ ss) = ap (λ others. s ∷ others) (list_back ss)
 

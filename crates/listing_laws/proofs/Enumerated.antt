@@ -3,22 +3,9 @@ use Rattle.std.specs.Prelude.{◌≡◌, ◌⊎◌, Bool, true, false, List, [],
 use Rattle.std.specs.List.{flat_map, filter}
 use Rattle.std.proofs.Common.{ap, ◌∙◌, sym, subst, cond, inl, inr, true≢false}
 use Rattle.struct_model.specs.Listing.{IsIn, Ascends, Enumerated}
+use Rattle.well_founded.proofs.NodesLaws.{in_left, in_right, in_either}
 
 module _ {X : Type 0} where
-  pub in_left : (x : X) (xs ys : List X) → IsIn x xs → IsIn x (xs ++ ys)
-  in_left x [] ys h = absurd h
-  in_left x (z ∷ xs) ys (inl same) = inl same
-  in_left x (z ∷ xs) ys (inr within) = inr (in_left x xs ys within)
-
-  pub in_right : (x : X) (xs ys : List X) → IsIn x ys → IsIn x (xs ++ ys)
-  in_right x [] ys h = h
-  in_right x (z ∷ xs) ys h = inr (in_right x xs ys h)
-
-  pub in_either : (x : X) (xs ys : List X) → IsIn x (xs ++ ys) → IsIn x xs ⊎ IsIn x ys
-  in_either x [] ys h = inr h
-  in_either x (z ∷ xs) ys (inl same) = inl (inl same)
-  in_either x (z ∷ xs) ys (inr within) = elim (in_either x xs ys within) [ inl left ↦ inl (inr left) | inr right ↦ inr right ]
-
   pub ascends_append : (R : X → X → Type 0) (xs ys : List X) → Ascends R xs → Ascends R ys
       → ((x : X) → IsIn x xs → (y : X) → IsIn y ys → R x y) → Ascends R (xs ++ ys)
   ascends_append R [] ys first second between = second

@@ -54,7 +54,7 @@ zeros_rise (suc n) = (least n, zeros_rise n)
     least zero = tt
     least (suc m) = (omega arith, least m)
 
-in_range : (start count size : ℕ) → IsIn size (range_with_len start count) → size < start + count
+pub in_range : (start count size : ℕ) → IsIn size (range_with_len start count) → size < start + count
 in_range start zero size h = absurd h
 in_range start (suc count) size (inl same) = omega arith
 in_range start (suc count) size (inr there) = omega (arith, in_range (start + 1) count size there)

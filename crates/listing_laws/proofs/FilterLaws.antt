@@ -93,3 +93,9 @@ listing_within_is b g e u inside =
       sound = λ s within. from_is_one g e u s (from_filter (is_one g e u) s (bounded b) (found.sound s within)).1;
       complete = λ s p. found.complete s (in_filter (is_one g e u) s (bounded b) (inside s p) (is_one_from g e u s p));
     }
+
+-- each one that is picked is one of the expression's
+pub listing_within_sound : (b : Bounds) (g : Grammar) (e : Expression) (u : List ℕ) (s : Structure) → IsIn s (listing_within b g e u) → IsOne g e u s
+listing_within_sound b g e u s within =
+    let found : Enumerated Before (λ t. IsIn t (filter (is_one g e u) (bounded b))) (in_order (filter (is_one g e u) (bounded b))) = in_order_is (filter (is_one g e u) (bounded b)) in
+    from_is_one g e u s (from_filter (is_one g e u) s (bounded b) (found.sound s within)).1

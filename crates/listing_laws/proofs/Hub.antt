@@ -1,28 +1,23 @@
 -- What an expression lists is its listing, where what each of its names lists is.
-use Rattle.std.proofs.Common.{◌≡◌, ℕ, Bool, true, List, [], ◌∷◌, ◌++◌, refl, sym, ap, inl, inr, true≢false}
+use Rattle.std.proofs.Common.{◌≡◌, ℕ, true, List, [], ◌∷◌, refl, sym, ap, inl, inr, true≢false}
 use Rattle.std.specs.List.{list_all}
-use Rattle.std.proofs.lemmas.Bool.{and_parts, and_from, eqb-true}
+use Rattle.std.proofs.lemmas.Bool.{and_parts, eqb-true}
 use Rattle.spec_syntax.specs.Expression as expr
 use Rattle.spec_syntax.specs.Expression.{Expression, Expressions, no_expressions, more_expressions, preorder, preorder_of_all}
 use Rattle.spec_syntax.specs.Grammar.{Grammar}
 use Rattle.struct_model.specs.Structure.{Structure, Eps, Atom}
 use Rattle.struct_model.specs.Membership.{is_supply}
 use Rattle.struct_model.specs.Listing.{IsIn, Before, IsOne, Lists}
+use Rattle.well_founded.specs.Names.{name_in, is_no_container, is_plain}
+use Rattle.well_founded.proofs.NodesLaws.{in_left, in_right}
+use Rattle.well_founded.proofs.SetsLaws.{both_plain}
 use Rattle.listing_laws.specs.Lister.{Names, list_epsilon, list_atom, list_with, list_each, list_components}
-use Rattle.listing_laws.specs.Later.{name_in, is_no_container, is_plain}
 use Rattle.listing_laws.proofs.Enumerated as enumerated
-use Rattle.listing_laws.proofs.Enumerated.{in_left, in_right, in_flat_map}
+use Rattle.listing_laws.proofs.Enumerated.{in_flat_map}
 use Rattle.listing_laws.proofs.Supplies.{supply_rises, supply_allowed, split_supplies}
 use Rattle.listing_laws.specs.Laws.{ListsEach, ExpressionIsListed}
 use Rattle.listing_laws.proofs.Arguments.{union_is}
 use Rattle.listing_laws.proofs.Components.{ListsComponents, no_components_are, by_splits_are, products_are}
-
-pub list_all-append : {X : Type 0} (test : X → Bool) (xs ys : List X) → list_all test (xs ++ ys) ≡ true → (list_all test xs ≡ true) × (list_all test ys ≡ true)
-list_all-append test [] ys h = (refl, h)
-list_all-append test (x ∷ xs) ys h =
-    let both = and_parts _ _ h in
-    let rest : (list_all test xs ≡ true) × (list_all test ys ≡ true) = list_all-append test xs ys both.1 in
-    (and_from _ _ both.0 rest.0, rest.1)
 
 module _ (g : Grammar) where
   -- may atoms have these labels
@@ -76,7 +71,7 @@ module _ (g : Grammar) where
           → ListsEach g es u (list_each names es u)
       each no_expressions h listed u good = tt
       each (more_expressions e es) h listed u good =
-          let both = list_all-append is_no_container (preorder e) (preorder_of_all es) h in (
+          let both = both_plain e es h in (
             lists e both.0 (λ name at. listed name (in_left (expr.Name name) (preorder e) (preorder_of_all es) at)) u good,
             each es both.1 (λ name at. listed name (in_right (expr.Name name) (preorder e) (preorder_of_all es) at)) u good,
           )
@@ -85,7 +80,7 @@ module _ (g : Grammar) where
           → ListsComponents g es u (list_components names es u)
       components no_expressions h listed u good = no_components_are g u
       components (more_expressions e es) h listed u good =
-          let both = list_all-append is_no_container (preorder e) (preorder_of_all es) h in
+          let both = both_plain e es h in
           by_splits_are g e es u (list_with names e) (list_components names es) (supply_rises g.universe u good)
           (λ split s.
           lists e both.0 (λ name at. listed name (in_left (expr.Name name) (preorder e) (preorder_of_all es) at)) split.part (split_supplies g.universe u good split s).0)

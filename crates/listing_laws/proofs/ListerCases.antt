@@ -1,13 +1,14 @@
--- Worked cases of splits and of what is listed, by computing.
-use Rattle.std.specs.Prelude.{◌≡◌, ℕ, true, false, List, [], ◌∷◌, refl, codes}
+-- Worked cases of splits and of what is listed, by computing. Names list with at most so many rules inside one another.
+use Rattle.std.specs.Prelude.{◌≡◌, ℕ, zero, suc, List, [], ◌∷◌, map, refl, codes}
+use Rattle.std.specs.Option.{option_map_or}
 use Rattle.spec_syntax.specs.declared.statement.Universe.TheVariants.{Unlabelled}
 use Rattle.spec_syntax.specs.Expression as expr
 use Rattle.spec_syntax.specs.Expression.{Expression, expressions_of}
+use Rattle.spec_syntax.specs.Rules.{symbol, right_side}
 use Rattle.spec_syntax.specs.Grammar.{Grammar}
 use Rattle.struct_model.specs.Structure.{Structure, Eps, Atom, Named, Alt}
 use Rattle.listing_laws.specs.Splits.{Split, splits}
-use Rattle.listing_laws.specs.Lister.{product, lists_to_depth}
-use Rattle.listing_laws.specs.Later.{uses_only_later}
+use Rattle.listing_laws.specs.Lister.{Names, product, list_with, named}
 
 abbrev split : List ℕ → List ℕ → Split
 split part rest = record { part = part; rest = rest }
@@ -23,6 +24,18 @@ splits_of_labels = refl
 splits_of_repeats : splits (1 ∷ 1 ∷ 2 ∷ []) ≡
     split [] (1 ∷ 1 ∷ 2 ∷ []) ∷ split (1 ∷ []) (1 ∷ 2 ∷ []) ∷ split (1 ∷ 1 ∷ []) (2 ∷ []) ∷ split (1 ∷ 1 ∷ 2 ∷ []) [] ∷ split (1 ∷ 2 ∷ []) (1 ∷ []) ∷ split (2 ∷ []) (1 ∷ 1 ∷ []) ∷ []
 splits_of_repeats = refl
+
+-- what a rule's name lists, given what right sides list
+abbrev list_rule : Grammar → (Expression → List ℕ → List Structure) → Names
+list_rule g lister name u =
+    option_map_or (λ number. option_map_or (λ right. map (named number) (lister right u)) (right_side g.rules number) []) (symbol g.rules name) []
+
+abbrev names_to_depth : Grammar → ℕ → Names
+names_to_depth g zero name u = []
+names_to_depth g (suc depth) name u = list_rule g (list_with (names_to_depth g depth)) name u
+
+abbrev lists_to_depth : Grammar → ℕ → Expression → List ℕ → List Structure
+lists_to_depth g depth e u = list_with (names_to_depth g depth) e u
 
 abbrev unlabelled : List (List ℕ × Expression) → Grammar
 unlabelled rules = record { rules = rules; universe = Unlabelled }
@@ -46,9 +59,6 @@ pairs_of_size_3 = refl
 pairs_of_size_1 : lists_to_depth pairs 2 (expr.Name (codes "S")) (0 ∷ []) ≡ []
 pairs_of_size_1 = refl
 
-pairs_use_later : uses_only_later pairs.rules ≡ true
-pairs_use_later = refl
-
 -- B = Union(Z, Prod(B, B))
 abbrev binary : Grammar
 binary = unlabelled ((codes "B", expr.Union (expressions_of (expr.Atom ∷ expr.Prod (expressions_of (expr.Name (codes "B") ∷ expr.Name (codes "B") ∷ [])) ∷ []))) ∷ [])
@@ -64,9 +74,6 @@ binary_of_size_3 = refl
 
 binary_to_depth_2 : lists_to_depth binary 2 (expr.Name (codes "B")) (0 ∷ 0 ∷ 0 ∷ []) ≡ []
 binary_to_depth_2 = refl
-
-binary_uses_itself : uses_only_later binary.rules ≡ false
-binary_uses_itself = refl
 
 -- T = Union(A, Prod(Z, A, E)), A = Atom, E = Epsilon, F = E
 abbrev worded : Grammar

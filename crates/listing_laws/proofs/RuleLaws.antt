@@ -1,5 +1,5 @@
 -- The structures of a rule's name are those of its right side, told by the rule's number.
-use Rattle.std.proofs.Common.{◌≡◌, ◌⊎◌, ℕ, zero, suc, Bool, true, false, not, ◌&&◌, ◌||◌, List, [], map, refl, sym, ap, ◌∙◌, inl, inr, arith, true≢false, Less, Equal, Greater, Ordering, nat_cmp, nat_eq, Some, None, Option}
+use Rattle.std.proofs.Common.{◌≡◌, ◌⊎◌, ℕ, zero, suc, Bool, true, false, not, ◌&&◌, ◌||◌, List, [], map, refl, sym, ap, ◌∙◌, inl, inr, arith, true≢false, Less, Equal, Greater, Ordering, nat_cmp, nat_eq, Some, None}
 use Rattle.std.specs.Option.{option_map_or}
 use Rattle.std.specs.Cmp.Lexicographic.{slice_cmp}
 use Rattle.std.specs.Ordering.{ordering_then}
@@ -17,6 +17,7 @@ use Rattle.struct_model.specs.Structure.{Structure, Eps, Atom, Named, labels, as
 use Rattle.struct_model.specs.Order.{key_order, order_within}
 use Rattle.struct_model.specs.Membership.{is_of, names, is_epsilon, is_atom, is_label}
 use Rattle.struct_model.specs.Listing.{Before, IsOne, Lists}
+use Rattle.well_founded.proofs.LeastLaws.{held}
 use Rattle.listing_laws.specs.Lister.{named}
 use Rattle.listing_laws.proofs.Enumerated as enumerated
 use Rattle.listing_laws.proofs.Numbers.{symbol_bounds}
@@ -68,12 +69,6 @@ named_before n s t h = elim (less_cases (key_order s t) (order_within s t) h) [
 ]
 
 -- ---- which structures a name has
-
--- a test of what there is holds of something
-module _ {X : Type 0} where
-  pub held : (has : X → Bool) (o : Option X) → option_map_or has o false ≡ true → (x : X) × (o ≡ Some x) × (has x ≡ true)
-  held has None h = absurd (true≢false (sym h))
-  held has (Some x) h = (x, refl, h)
 
 -- is it a word that no rule is told of
 is_bare : Structure → Bool
@@ -151,7 +146,7 @@ module _ (g : Grammar) where
 
   module _ (name : List ℕ) (n : ℕ) (right : Expression) (numbered : symbol g.rules name ≡ Some n) (sided : right_side g.rules n ≡ Some right) where
     -- the name has the rule's number, and its right side
-    names_is : (has : Expression → Bool) → has right ≡ true → names g name n has ≡ true
+    pub names_is : (has : Expression → Bool) → has right ≡ true → names g name n has ≡ true
     names_is has h = and_from _ _ (ap (λ o. option_map_or (nat_eq n) o false) numbered ∙ eq-eqb n n refl) (ap (λ o. option_map_or has o false) sided ∙ h)
 
     from_names : (m : ℕ) (has : Expression → Bool) → names g name m has ≡ true → (m ≡ n) × (has right ≡ true)
@@ -183,7 +178,7 @@ module _ (g : Grammar) where
         let both = and_parts _ _ found.1 in
         (found.0, both.0, both.1)
 
-    from_named : (u : List ℕ) (s : Structure) → IsOne g (expr.Name name) u s → (t : Structure) × IsOne g right u t × (s ≡ named n t)
+    pub from_named : (u : List ℕ) (s : Structure) → IsOne g (expr.Name name) u s → (t : Structure) × IsOne g right u t × (s ≡ named n t)
     from_named u (Eps m) p =
         let found = from_names m is_epsilon p.0 in
         (Eps 0, (ap (λ side. is_of g side (Eps 0)) (is_right_epsilon right found.1), p.1), ap Eps found.0)

@@ -1,6 +1,7 @@
 -- Supplies ascend, and atoms may carry their labels.
-use Rattle.std.proofs.Common.{◌≡◌, ◌⊎◌, ℕ, zero, suc, ◌+◌, ◌<◌, ◌≤◌, Bool, true, List, [], ◌∷◌, ◌++◌, map, filter, replicate, nat_lt, nat_eq, refl, sym, subst, inl, inr, arith}
+use Rattle.std.proofs.Common.{◌≡◌, ◌⊎◌, ℕ, zero, suc, ◌+◌, ◌<◌, ◌≤◌, Bool, true, List, [], ◌∷◌, ◌++◌, map, filter, replicate, nat_lt, nat_eq, length, length-append, refl, sym, ◌∙◌, subst, inl, inr, arith}
 use Rattle.std.specs.List.{list_all}
+use Rattle.std.proofs.lemmas.List.{length-replicate}
 use Rattle.std.proofs.lemmas.Bool.{and_parts, and_from, ltb-true, lt-ltb, eqb-true, eq-eqb}
 use Rattle.spec_syntax.specs.declared.statement.Universe.{Universe}
 use Rattle.spec_syntax.specs.declared.statement.Universe.TheVariants.{Labelled, Unlabelled}
@@ -9,7 +10,8 @@ use Rattle.struct_model.specs.Listing.{IsIn}
 use Rattle.struct_model.specs.Bounded.{greatest}
 use Rattle.listing_laws.specs.Splits.{Split, taking, leaving, begins_above, splits}
 use Rattle.listing_laws.proofs.Labels.{Each, AtLeast, Rises, lower, each_append}
-use Rattle.listing_laws.proofs.Enumerated.{in_either, from_map, from_filter}
+use Rattle.well_founded.proofs.NodesLaws.{in_either}
+use Rattle.listing_laws.proofs.Enumerated.{from_map, from_filter}
 use Rattle.listing_laws.proofs.SplitLaws.{MakesUp, splits_are}
 
 above_all : (low : ℕ) (u : List ℕ) → ascends_above low u ≡ true → AtLeast (low + 1) u
@@ -151,3 +153,15 @@ at_most_more low high (n ∷ ns) h a = (omega (arith, a.0), at_most_more low hig
 pub at_most_greatest : (high : ℕ) (u : List ℕ) → greatest u ≤ high → Each (λ l. l ≤ high) u
 at_most_greatest high [] h = tt
 at_most_greatest high (n ∷ ns) h = (omega arith, at_most_greatest high ns (omega arith))
+
+one_to_size : (n : ℕ) → length (one_to n) ≡ n
+one_to_size zero = refl
+one_to_size (suc n) = length-append (one_to n) (suc n ∷ []) ∙ more n (length (one_to n)) (one_to_size n)
+  where
+    more : (n k : ℕ) → k ≡ n → k + 1 ≡ suc n
+    more n k same = omega arith
+
+-- there are as many labels as the size
+pub supply_size : (universe : Universe) (n : ℕ) → length (supply universe n) ≡ n
+supply_size Unlabelled n = length-replicate {A = ℕ} n 0
+supply_size Labelled n = one_to_size n

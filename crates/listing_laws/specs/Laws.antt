@@ -1,20 +1,28 @@
 -- The laws of listings.
-use Rattle.std.specs.Prelude.{◌≡◌, ◌≤◌, ℕ, List, [], ◌∷◌, ◌++◌, map, replicate, length, IsTrue, Some, None}
+use Rattle.std.specs.Prelude.{◌≡◌, ◌≤◌, ◌<◌, ℕ, ◌+◌, ◌-◌, List, [], ◌∷◌, ◌++◌, map, replicate, length, IsTrue, Option, Some, None, slice_get}
 use Rattle.std.specs.declared.cmp.Ordering.TheVariants.{Less}
+use Rattle.std.specs.List.{sum}
 use Rattle.std.specs.Ordering.{nat_cmp}
 use Rattle.std.specs.Cmp.Lexicographic.{slice_cmp}
 use Rattle.spec_syntax.specs.declared.statement.Universe.{Universe}
-use Rattle.spec_syntax.specs.Expression.{Expression, Expressions, Epsilon, Atom, Name, Union, Prod, no_expressions, more_expressions}
-use Rattle.spec_syntax.specs.Rules.{Rules, symbol, right_side, all_nodes}
+use Rattle.spec_syntax.specs.Expression.{Expression, Expressions, Epsilon, Atom, Name, Union, Prod, no_expressions, more_expressions, expressions_of, expression_list}
+use Rattle.spec_syntax.specs.Rules.{symbol, right_side, all_nodes, is_spec}
 use Rattle.spec_syntax.specs.Grammar.{Grammar}
 use Rattle.struct_model.specs.Structure.{Structure, ascending}
-use Rattle.struct_model.specs.Membership.{supply, is_supply}
+use Rattle.struct_model.specs.Membership.{is_supply}
 use Rattle.struct_model.specs.Listing.{IsIn, Enumerated, Lists}
-use Rattle.struct_model.specs.Bounded.{listing, number}
+use Rattle.struct_model.specs.Bounded.{listing}
+use Rattle.well_founded.specs.declared.refused.Refused.TheVariants.{Endless}
+use Rattle.well_founded.specs.Sizes.{no_least}
+use Rattle.well_founded.specs.Names.{used_names, undefined_name, is_plain, are_plain}
+use Rattle.well_founded.specs.WellFounded.{HoldsCycle, HoldsNull, OfNone, IsEachProductive, IsWellFounded, IsCulprit}
+use Rattle.well_founded.specs.Rank.{CanFill}
+use Rattle.well_founded.specs.SameSize.{is_told_inside}
 use Rattle.listing_laws.specs.Splits.{Split, splits}
-use Rattle.listing_laws.specs.Lister.{Names, list_with, alternatives, by_splits, product, list_no_components, list_epsilon, list_atom, named, lists_to_depth}
+use Rattle.listing_laws.specs.Lister.{Names, list_with, alternatives, by_splits, product, list_no_components, list_epsilon, list_atom, named}
 use Rattle.listing_laws.specs.BySize.{by_sizes}
-use Rattle.listing_laws.specs.Later.{used_names, is_later, uses_only_later, name_without_rule, backward_name, is_plain, are_plain}
+use Rattle.listing_laws.specs.Recursion.{components_on, components_of, listing_of_size, by_sizes_from, AreLeast}
+use Rattle.listing_laws.specs.Endless.{HasEndlesslyMany}
 
 -- the two lists are supplies, and together they are the supply
 pub record IsSplit (universe : Universe) (u : List ℕ) (split : Split) : Type 0 where
@@ -82,24 +90,58 @@ ExpressionIsListed =
     → IsTrue (is_supply g.universe u)
     → Lists g e u (list_with names e u)
 
--- with as many rules inside one another as there are, the listing of the expression is computed, and the number is its length
-pub record IsListed (g : Grammar) (e : Expression) : Type 0 where
-  pub lists : (u : List ℕ) → IsTrue (is_supply g.universe u) → Lists g e u (lists_to_depth g (length g.rules) e u)
-  pub computed : (u : List ℕ) → IsTrue (is_supply g.universe u) → listing g e u ≡ lists_to_depth g (length g.rules) e u
-  pub at_size : (n : ℕ) → listing g e (supply g.universe n) ≡ lists_to_depth g (length g.rules) e (supply g.universe n)
-  pub counted : (n : ℕ) → number g e n ≡ length (lists_to_depth g (length g.rules) e (supply g.universe n))
+-- on each supply the structures that are picked within the bounds are the listing of the expression, and there is no other
+pub record IsListing (g : Grammar) (e : Expression) : Type 0 where
+  pub lists : (u : List ℕ) → IsTrue (is_supply g.universe u) → Lists g e u (listing g e u)
+  pub only : (u : List ℕ) (ss : List Structure) → IsTrue (is_supply g.universe u) → Lists g e u ss → ss ≡ listing g e u
 
--- Where each rule uses only later rules there is a listing of each name and of each expression in the rules, and the
--- structures that are picked within the bounds are it.
-pub record LaterRulesAreListed : Type 0 where
-  pub names : (g : Grammar) (name : List ℕ) → IsTrue (uses_only_later g.rules) → IsTrue (are_plain g.rules) → IsListed g (Name name)
-  pub nodes : (g : Grammar) (e : Expression) → IsTrue (uses_only_later g.rules) → IsTrue (are_plain g.rules) → IsIn e (all_nodes g.rules) → IsListed g e
+-- Where a grammar without containers is well founded there is exactly one listing of each name, of each expression in the
+-- rules and of the last components of each Prod, and the structures that are picked within the bounds are it.
+pub record WellFoundedIsListed : Type 0 where
+  pub names : (g : Grammar) (name : List ℕ) → IsTrue (is_spec g.rules) → IsTrue (are_plain g.rules) → IsWellFounded g → IsListing g (Name name)
+  pub nodes : (g : Grammar) (e : Expression) → IsTrue (is_spec g.rules) → IsTrue (are_plain g.rules) → IsWellFounded g → IsIn e (all_nodes g.rules) → IsListing g e
+  pub suffixes : (g : Grammar) (earlier later : List Expression) → IsTrue (is_spec g.rules) → IsTrue (are_plain g.rules) → IsWellFounded g
+      → IsIn (Prod (expressions_of (earlier ++ later))) (all_nodes g.rules) → IsListing g (Prod (expressions_of later))
 
--- Each rule uses only later rules exactly where each name in its right side is one of a later rule, and so where no name
--- is without a rule and none is one of its own or an earlier rule.
-pub record LaterByNames : Type 0 where
-  pub by_names : (rules : Rules) → ((n : ℕ) (right : Expression) (name : List ℕ) → right_side rules n ≡ Some right → IsIn name (used_names right) → IsTrue (is_later rules n name))
-      → IsTrue (uses_only_later rules)
-  pub names : (rules : Rules) (n : ℕ) (right : Expression) (name : List ℕ) → IsTrue (uses_only_later rules) → right_side rules n ≡ Some right
-      → IsIn name (used_names right) → IsTrue (is_later rules n name)
-  pub by_first : (rules : Rules) → name_without_rule rules ≡ None → backward_name rules ≡ None → IsTrue (uses_only_later rules)
+-- In a well founded grammar without containers the listings are made of the listings inside. Without labels they go by size,
+-- and of a Prod's component the sizes from its least one up to what the others' least sizes leave are enough.
+pub record ListingsRecur : Type 0 where
+  pub epsilon : (g : Grammar) (u : List ℕ) → IsTrue (is_supply g.universe u) → listing g Epsilon u ≡ list_epsilon u
+  pub atom : (g : Grammar) (u : List ℕ) → IsTrue (is_supply g.universe u) → listing g Atom u ≡ list_atom u
+  pub no_rule : (g : Grammar) (name : List ℕ) (u : List ℕ) → IsTrue (is_supply g.universe u) → symbol g.rules name ≡ None → listing g (Name name) u ≡ []
+  pub name : (g : Grammar) (name : List ℕ) (n : ℕ) (right : Expression) (u : List ℕ) → IsTrue (is_spec g.rules) → IsTrue (are_plain g.rules) → IsWellFounded g
+      → symbol g.rules name ≡ Some n → right_side g.rules n ≡ Some right → IsTrue (is_supply g.universe u) → listing g (Name name) u ≡ map (named n) (listing g right u)
+  pub union : (g : Grammar) (es : Expressions) (u : List ℕ) → IsTrue (is_spec g.rules) → IsTrue (are_plain g.rules) → IsWellFounded g
+      → IsIn (Union es) (all_nodes g.rules) → IsTrue (is_supply g.universe u) → listing g (Union es) u ≡ alternatives 1 (map (λ e. listing g e u) (expression_list es))
+  pub prod : (g : Grammar) (earlier later : List Expression) (u : List ℕ) → IsTrue (is_spec g.rules) → IsTrue (are_plain g.rules) → IsWellFounded g
+      → IsIn (Prod (expressions_of (earlier ++ later))) (all_nodes g.rules) → IsTrue (is_supply g.universe u)
+      → listing g (Prod (expressions_of later)) u ≡ map product (components_on g (expressions_of later) u)
+  pub by_size : (g : Grammar) (es : Expressions) (n : ℕ) → components_on g es (replicate n 0) ≡ components_of g es n
+  pub between : (g : Grammar) (earlier : List Expression) (e : Expression) (later : List Expression) (least : ℕ) (others : List ℕ) (n : ℕ) → IsTrue (are_plain g.rules)
+      → IsIn (Prod (expressions_of (earlier ++ e ∷ later))) (all_nodes g.rules) → AreLeast g (e ∷ later) (least ∷ others)
+      → components_of g (expressions_of (e ∷ later)) n
+      ≡ by_sizes_from least (n + 1 - (least + sum others)) (listing_of_size g e) (components_of g (expressions_of later)) n
+
+-- Where the other refusals don't hold, a rule is refused as endless exactly where some class has endlessly many members of one
+-- size. The rule itself has endlessly many of the size that is told, unless that is too great.
+pub record EndlessByMembers : Type 0 where
+  pub many : (g : Grammar) (start : Option (List ℕ)) (name : List ℕ) (n : ℕ) → IsTrue (is_spec g.rules) → IsTrue (are_plain g.rules)
+      → IsCulprit g start (Endless name n) → (x : List ℕ) × (m : ℕ) × HasEndlesslyMany g x m
+  pub told : (g : Grammar) (start : Option (List ℕ)) (name : List ℕ) (n : ℕ) → IsTrue (is_spec g.rules) → IsTrue (are_plain g.rules)
+      → IsCulprit g start (Endless name n) → n < no_least → HasEndlesslyMany g name n
+  pub endless : (g : Grammar) (start : Option (List ℕ)) (x : List ℕ) (m : ℕ) → IsTrue (is_spec g.rules) → IsTrue (are_plain g.rules)
+      → undefined_name g.rules start ≡ None → OfNone (HoldsCycle g) g.rules → IsEachProductive g → OfNone (HoldsNull g) g.rules
+      → HasEndlesslyMany g x m → (name : List ℕ) × (n : ℕ) × IsCulprit g start (Endless name n)
+
+-- In a well founded grammar without containers these can stand inside at the same size, so their ranks are lower: the right
+-- side of a name unless it is one of the two words, each argument of a Union, and a component of a Prod where the least sizes
+-- of all others are 0.
+pub record SameSizeIsFilled : Type 0 where
+  pub name : (g : Grammar) (name : List ℕ) (n : ℕ) (right : Expression) → IsTrue (is_spec g.rules) → IsTrue (are_plain g.rules) → IsWellFounded g
+      → symbol g.rules name ≡ Some n → right_side g.rules n ≡ Some right → IsTrue (is_told_inside right) → CanFill g (Name name) 0 right
+  pub union : (g : Grammar) (es : Expressions) (place : ℕ) (e : Expression) → IsTrue (is_spec g.rules) → IsTrue (are_plain g.rules) → IsWellFounded g
+      → IsIn (Union es) (all_nodes g.rules) → slice_get (expression_list es) place ≡ Some e → CanFill g (Union es) place e
+  pub prod : (g : Grammar) (earlier : List Expression) (e : Expression) (later : List Expression) (before after : List ℕ)
+      → IsTrue (is_spec g.rules) → IsTrue (are_plain g.rules) → IsWellFounded g → IsIn (Prod (expressions_of (earlier ++ e ∷ later))) (all_nodes g.rules)
+      → AreLeast g earlier before → AreLeast g later after → sum before ≡ 0 → sum after ≡ 0
+      → CanFill g (Prod (expressions_of (earlier ++ e ∷ later))) (length earlier) e

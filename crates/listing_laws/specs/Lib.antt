@@ -1,5 +1,6 @@
 pub mod Splits
 pub mod Lister
-pub mod Later
 pub mod BySize
 pub mod Laws
+pub mod Recursion
+pub mod Endless

@@ -1,11 +1,8 @@
 -- What an expression lists on a supply of labels, by recursion on the expression, given what each name lists.
-use Rattle.std.specs.Prelude.{ℕ, zero, suc, ◌+◌, List, [], ◌∷◌, ◌++◌, map}
-use Rattle.std.specs.Option.{option_map_or}
+use Rattle.std.specs.Prelude.{ℕ, zero, ◌+◌, List, [], ◌∷◌, ◌++◌, map}
 use Rattle.std.specs.List.{flat_map}
 use Rattle.spec_syntax.specs.Expression as expr
 use Rattle.spec_syntax.specs.Expression.{Expression, Expressions, no_expressions, more_expressions}
-use Rattle.spec_syntax.specs.Rules.{symbol, right_side}
-use Rattle.spec_syntax.specs.Grammar.{Grammar}
 use Rattle.struct_model.specs.declared.tree.Form5.TheVariants as form
 use Rattle.struct_model.specs.Structure.{Structure, Eps, Atom, Named, Alt, Tup, parts_of}
 use Rattle.listing_laws.specs.Splits.{splits}
@@ -72,17 +69,3 @@ abbrev pub named : ℕ → Structure → Structure
 named number (Eps zero) = Eps number
 named number (Atom zero label) = Atom number label
 named number s = Named number s
-
--- what a rule's name lists, given what right sides list
-abbrev pub list_rule : Grammar → (Expression → List ℕ → List Structure) → Names
-list_rule g lister name u =
-    option_map_or (λ number. option_map_or (λ right. map (named number) (lister right u)) (right_side g.rules number) []) (symbol g.rules name) []
-
--- what each name lists with at most so many rules inside one another
-abbrev pub names_to_depth : Grammar → ℕ → Names
-names_to_depth g zero name u = []
-names_to_depth g (suc depth) name u = list_rule g (list_with (names_to_depth g depth)) name u
-
--- what the expression lists with at most so many rules inside one another
-abbrev pub lists_to_depth : Grammar → ℕ → Expression → List ℕ → List Structure
-lists_to_depth g depth e u = list_with (names_to_depth g depth) e u

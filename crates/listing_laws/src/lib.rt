@@ -3,7 +3,7 @@
 //! This crate has no code of the program. Each law is what a function with an empty body ensures.
 #![tactic(auto)]
 
-ghost use Rattle.listing_laws.specs.Laws.{SplitsAreListed, WordsAreListed, UnionIsListed, ProdIsListed, ExpressionIsListed, LaterRulesAreListed, LaterByNames};
+ghost use Rattle.listing_laws.specs.Laws.{SplitsAreListed, WordsAreListed, UnionIsListed, ProdIsListed, ExpressionIsListed, WellFoundedIsListed, ListingsRecur, SameSizeIsFilled, EndlessByMembers};
 
 /// Each way to split a supply in a part and the rest is there once, in the lexicographic order of the parts.
 pub fn splits_are_listed()
@@ -32,16 +32,28 @@ pub fn expression_is_listed()
     ensures { ExpressionIsListed }
 {}
 
-/// Where each rule uses only later rules, there is a listing of each name and of each expression in the rules, at each
-/// size, and the structures that are picked within the bounds are it.
-pub fn later_rules_are_listed()
-    ensures { LaterRulesAreListed }
+/// Where a grammar is well founded, there is exactly one listing of each name, of each expression in the rules and of the
+/// last components of each Prod in them, and the structures that are picked within the bounds are it.
+pub fn well_founded_is_listed()
+    ensures { WellFoundedIsListed }
 {}
 
-/// When each rule uses only later rules: where each name in its right side is one of a later rule, and so where no name
-/// is without a rule and none is one of its own or an earlier rule.
-pub fn later_by_names()
-    ensures { LaterByNames }
+/// The listing of an expression of a well-founded grammar by the listings of the expressions inside it. In the unlabelled
+/// universe these are listings by size, and of a Prod's component those sizes are enough that the least sizes leave.
+pub fn listings_recur()
+    ensures { ListingsRecur }
+{}
+
+/// What the listing of a node of a well-founded grammar needs at the same size can stand inside at that size, and so has a
+/// lower rank.
+pub fn same_size_is_filled()
+    ensures { SameSizeIsFilled }
+{}
+
+/// Where a grammar has none of the other faults, its check refuses a rule as endless exactly where for some class and size
+/// there are, for each number, so many different members.
+pub fn endless_by_members()
+    ensures { EndlessByMembers }
 {}
 
 #[cfg(test)]
@@ -56,8 +68,10 @@ mod tests {
         union_is_listed();
         prod_is_listed();
         expression_is_listed();
-        later_rules_are_listed();
-        later_by_names();
+        well_founded_is_listed();
+        listings_recur();
+        same_size_is_filled();
+        endless_by_members();
         Ok(())
     }
 }

@@ -1,0 +1,188 @@
+-- A rule holds itself exactly where some rule has endlessly many members of one size.
+use Rattle.std.proofs.Common.{◌≡◌, ℕ, zero, suc, ◌<◌, ◌≤◌, true, List, [], ◌∷◌, length, refl, sym, ap, ◌∙◌, subst, inl, inr, arith, Some, None, Option}
+use Rattle.std.specs.Cmp.Lexicographic.{bytes_decides}
+use Rattle.std.proofs.lemmas.Bool.{and_parts, and_from}
+use Rattle.spec_syntax.specs.Expression as expr
+use Rattle.spec_syntax.specs.Expression.{Expression}
+use Rattle.spec_syntax.specs.Rules.{symbol}
+use Rattle.spec_syntax.specs.Grammar.{Grammar}
+use Rattle.struct_model.specs.Structure.{Structure, Eps, Atom, Named, Alt, Tup, Structures, no_parts, more_parts, nodes, nodes_of_parts, labels, size, ascending, key}
+use Rattle.struct_model.specs.Membership.{is_of, supply, is_member}
+use Rattle.struct_model.specs.Listing.{IsIn, Ascends, IsOne}
+use Rattle.struct_model.specs.Bounded.{listing}
+use Rattle.well_founded.specs.declared.refused.Refused.{Refused}
+use Rattle.well_founded.specs.declared.refused.Refused.TheVariants.{Undefined, CycleUnlabelled, Unproductive, NullElement, Endless, Memory}
+use Rattle.well_founded.specs.Names.{is_plain, are_plain, undefined_name}
+use Rattle.well_founded.specs.Sets.{reading_sets}
+use Rattle.well_founded.specs.Inside.{IsInside, IsAmong}
+use Rattle.well_founded.specs.Sizes.{IsOf, IsLeast, no_least}
+use Rattle.well_founded.specs.WellFounded.{HoldsItself, HoldsCycle, HasNoStructure, HoldsNull, OfNone, IsEachProductive, IsCulprit, Checks}
+use Rattle.well_founded.specs.Least.{least_with, size_of_name, IsSize}
+use Rattle.well_founded.proofs.SetsLaws.{reading_sets_plain, plain_is}
+use Rattle.well_founded.proofs.LeastRounds.{sizes_exist}
+use Rattle.well_founded.proofs.EndlessLaws.{holds_leads, grow}
+use Rattle.well_founded.proofs.CheckLaws.{first_in, first_not_none}
+use Rattle.well_founded.proofs.CheckExists.{some_check}
+use Rattle.well_founded.proofs.RankLaws.{ranks_exist}
+use Rattle.listing_laws.specs.Endless.{Differ, HasEndlesslyMany}
+use Rattle.listing_laws.specs.Laws.{IsListing, EndlessByMembers}
+use Rattle.listing_laws.proofs.Distinct.{no_longer}
+use Rattle.listing_laws.proofs.Labels.{ascending_same}
+use Rattle.listing_laws.proofs.Relabel.{relabel}
+use Rattle.listing_laws.proofs.RuleLaws.{no_rule_lists}
+use Rattle.listing_laws.proofs.Supplies.{supply_is, supply_rises, supply_allowed, supply_size}
+use Rattle.listing_laws.proofs.WellFoundedListed.{name_lists}
+
+mutual
+  -- what stands inside has fewer nodes
+  inside_fewer : (t s : Structure) → IsInside t s → nodes t < nodes s
+  inside_fewer t (Eps x) h = absurd h
+  inside_fewer t (Atom x l) h = absurd h
+  inside_fewer t (Named x s) (inl same) = omega (arith, ap nodes same)
+  inside_fewer t (Named x s) (inr h) = omega (arith, inside_fewer t s h)
+  inside_fewer t (Alt k s) (inl same) = omega (arith, ap nodes same)
+  inside_fewer t (Alt k s) (inr h) = omega (arith, inside_fewer t s h)
+  inside_fewer t (Tup f ps) h = omega (arith, among_fewer t ps h)
+
+  among_fewer : (t : Structure) (ps : Structures) → IsAmong t ps → nodes t ≤ nodes_of_parts ps
+  among_fewer t no_parts h = absurd h
+  among_fewer t (more_parts s ps) (inl same) = omega (arith, ap nodes same)
+  among_fewer t (more_parts s ps) (inr (inl h)) = omega (arith, inside_fewer t s h)
+  among_fewer t (more_parts s ps) (inr (inr h)) = omega (arith, among_fewer t ps h)
+
+module _ (g : Grammar) (plain : are_plain g.rules ≡ true) where
+  member_from : (name : List ℕ) (n : ℕ) (s : Structure) → is_of g (expr.Name name) s ≡ true → key s ≡ supply g.universe n → is_member (reading_sets g) name n s ≡ true
+  member_from name n s of same =
+      subst (λ (h : Grammar). is_member h name n s ≡ true) (sym (reading_sets_plain g plain)) (and_from _ _ of ((bytes_decides (key s) (supply g.universe n)).1 same))
+
+  from_member : (name : List ℕ) (n : ℕ) (s : Structure) → is_member (reading_sets g) name n s ≡ true → IsOne g (expr.Name name) (supply g.universe n) s
+  from_member name n s member =
+      let both = and_parts _ _ (subst (λ (h : Grammar). is_member h name n s ≡ true) (reading_sets_plain g plain) member) in
+      (both.0, (bytes_decides (key s) (supply g.universe n)).0 both.1)
+
+  -- a class with a listing of the size has no more different members than there are in it
+  pub listed_ends : (name : List ℕ) (n : ℕ) → IsListing g (expr.Name name) → HasEndlesslyMany g name n → ⊥
+  listed_ends name n is_listing many =
+      let u = supply g.universe n in
+      let ss = many (suc (length (listing g (expr.Name name) u))) in
+      omega (
+        arith,
+        ss.1,
+        no_longer ss.0 (listing g (expr.Name name) u) ss.2 (λ s within.
+            (is_listing.lists u (supply_is g.universe n)).complete s (from_member name n s (ss.3 s within))),
+      )
+
+  -- ---- one more, again and again
+
+  module _ (name : List ℕ) (n : ℕ) (grown : (t : Structure) → is_of g (expr.Name name) t ≡ true → (s : Structure) × (is_of g (expr.Name name) s ≡ true) × IsInside t s × (labels s ≡ labels t)) where
+    -- so many different members, and one that has more nodes than each of them
+    record Tower (k : ℕ) : Type 0 where
+      top : Structure
+      below : List Structure
+      top_of : is_of g (expr.Name name) top ≡ true
+      top_key : key top ≡ supply g.universe n
+      many : length below ≡ k
+      differ : Ascends Differ below
+      each_of : (s : Structure) → IsIn s below → is_member (reading_sets g) name n s ≡ true
+      fewer : (s : Structure) → IsIn s below → nodes s < nodes top
+
+    higher : (k : ℕ) → Tower k → Tower (suc k)
+    higher k tower =
+        let more = grown tower.top tower.top_of in
+        let up : nodes tower.top < nodes more.0 = inside_fewer tower.top more.0 more.2 in
+        record {
+          top = more.0;
+          below = tower.top ∷ tower.below;
+          top_of = more.1;
+          top_key = ap ascending more.3 ∙ tower.top_key;
+          many = ap suc tower.many;
+          differ = ((λ s within same. irreflexive s (ap nodes same) (tower.fewer s within)), tower.differ);
+          each_of = λ s within. elim within [
+            | inl same ↦ subst (λ (t : Structure). is_member (reading_sets g) name n t ≡ true) (sym same) (member_from name n tower.top tower.top_of tower.top_key)
+            | inr there ↦ tower.each_of s there
+          ];
+          fewer = λ s within. elim within [
+            | inl same ↦ subst (λ (t : Structure). nodes t < nodes more.0) (sym same) up
+            | inr there ↦ less (nodes s) (tower.fewer s there) up
+          ];
+        }
+      where
+        irreflexive : (s : Structure) → nodes tower.top ≡ nodes s → nodes s < nodes tower.top → ⊥
+        irreflexive s same less = omega arith
+
+        less : (low : ℕ) → low < nodes tower.top → nodes tower.top < nodes (grown tower.top tower.top_of).0 → low < nodes (grown tower.top tower.top_of).0
+        less low below up = omega arith
+
+    tower_of : (k : ℕ) (first : Structure) → is_of g (expr.Name name) first ≡ true → key first ≡ supply g.universe n → Tower k
+    tower_of zero first of same = record {
+      top = first;
+      below = [];
+      top_of = of;
+      top_key = same;
+      many = refl;
+      differ = tt;
+      each_of = λ s within. absurd within;
+      fewer = λ s within. absurd within;
+    }
+    tower_of (suc k) first of same = higher k (tower_of k first of same)
+
+    pub endlessly : (first : Structure) → is_of g (expr.Name name) first ≡ true → key first ≡ supply g.universe n → HasEndlesslyMany g name n
+    endlessly first of same k = let tower = tower_of k first of same in (tower.below, tower.many, tower.differ, tower.each_of)
+
+  numbered : (name : List ℕ) (s : Structure) → is_of g (expr.Name name) s ≡ true → (r : ℕ) × (symbol g.rules name ≡ Some r)
+  numbered name s of = by (symbol g.rules name) refl
+    where
+      by : (o : Option ℕ) → symbol g.rules name ≡ o → (r : ℕ) × (symbol g.rules name ≡ Some r)
+      by None none = absurd ((no_rule_lists g name (key s) none).complete s (of, refl))
+      by (Some r) found = (r, found)
+
+  supply_length : (s : Structure) → length (supply g.universe (size s)) ≡ size s
+  supply_length s = supply_size g.universe (size s)
+
+  -- a rule that holds itself has endlessly many members of one size
+  -- a rule that holds itself has endlessly many members of the size of any of its structures
+  pub holds_many : (name : List ℕ) → HoldsItself g name → (t : Structure) → IsOf g (expr.Name name) t → HasEndlesslyMany g name (size t)
+  holds_many name holds t is_of_t =
+      let table = sizes_exist g.rules plain in
+      let sizes = least_with (size_of_name g.rules table.0) in
+      let sized : (e : Expression) → is_plain e ≡ true → IsSize g e (sizes e) = λ e e_plain. table.1.each g.universe e e_plain in
+      let of = plain_is g (expr.Name name) t plain refl is_of_t in
+      let number = numbered name t of in
+      let u = supply g.universe (size t) in
+      let first = relabel g plain t (expr.Name name) u refl of (supply_allowed g.universe u (supply_is g.universe (size t))) (supply_length t) in
+      endlessly name (size t)
+      (λ t of_t. grow g sizes plain sized name number.0 t number.1 (holds_leads g sizes plain sized name number.0 number.1 holds) of_t)
+      first.0 first.1 (ap ascending first.2 ∙ ascending_same u (supply_rises g.universe u (supply_is g.universe (size t))))
+
+  -- and so it has of its least size, where that is told
+  pub least_many : (name : List ℕ) (n : ℕ) → HoldsItself g name → IsLeast g (expr.Name name) n → n < no_least → HasEndlesslyMany g name n
+  least_many name n holds (inl exact) h = subst (HasEndlesslyMany g name) exact.1.has_size (holds_many name holds exact.1.smallest exact.1.is_of)
+  least_many name n holds (inr over) h = absurd (omega (arith, over.0, h))
+
+-- ---- the law
+
+-- what the check says, where no other refusal holds and some class has endlessly many members, is that a rule is endless
+said_endless : (g : Grammar) (start : Option (List ℕ)) (x : List ℕ) (m : ℕ) (said : Option Refused) → are_plain g.rules ≡ true → Checks g start said
+    → undefined_name g.rules start ≡ None → OfNone (HoldsCycle g) g.rules → IsEachProductive g → OfNone (HoldsNull g) g.rules → HasEndlesslyMany g x m
+    → (name : List ℕ) × (n : ℕ) × IsCulprit g start (Endless name n)
+said_endless g start x m None plain checks undefined cycles productive nulls many =
+    let ranks = ranks_exist g plain checks.0 in
+    absurd (listed_ends g plain x m (name_lists g plain ranks.0 ranks.1 x) many)
+said_endless g start x m (Some (Undefined name)) plain checks undefined cycles productive nulls many = absurd (let both : None ≡ Some name = sym undefined ∙ checks in cc)
+said_endless g start x m (Some (CycleUnlabelled name)) plain checks undefined cycles productive nulls many = absurd (first_not_none (HoldsCycle g) g.rules name checks.1 cycles)
+said_endless g start x m (Some (Unproductive name)) plain checks undefined cycles productive nulls many =
+    absurd (checks.2.holds (productive name checks.2.right (first_in (HasNoStructure g) g.rules name checks.2)))
+said_endless g start x m (Some (NullElement name)) plain checks undefined cycles productive nulls many = absurd (first_not_none (HoldsNull g) g.rules name checks.3 nulls)
+said_endless g start x m (Some (Endless name n)) plain checks undefined cycles productive nulls many = (name, n, checks)
+said_endless g start x m (Some Memory) plain checks undefined cycles productive nulls many = absurd checks
+
+pub endless_by_members : EndlessByMembers
+endless_by_members = record {
+  many = λ g start name n spec plain culprit.
+      let holds = culprit.4.holds in
+      (name, size holds.inner, holds_many g plain name holds holds.inner holds.is_inner);
+  told = λ g start name n spec plain culprit small. least_many g plain name n culprit.4.holds culprit.5 small;
+  endless = λ g start x m spec plain undefined cycles productive nulls many.
+      let check = some_check g start plain in
+      said_endless g start x m check.0 plain check.1 undefined cycles productive nulls many;
+}

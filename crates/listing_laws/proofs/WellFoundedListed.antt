@@ -1,0 +1,97 @@
+-- Where a grammar without containers is well founded, each name, each expression of the rules and the last components of
+-- each Prod have a listing, and it is computed.
+use Rattle.std.proofs.Common.{◌≡◌, ℕ, suc, ◌+◌, ◌*◌, ◌<◌, ◌≤◌, true, List, [], ◌∷◌, ◌++◌, map, length, refl, sym, ap, ◌∙◌, subst, inl, inr, arith, Some}
+use Rattle.std.proofs.lemmas.Bool.{cases_lt}
+use Rattle.spec_syntax.specs.Expression as expr
+use Rattle.spec_syntax.specs.Expression.{Expression, expressions_of}
+use Rattle.spec_syntax.specs.Rules.{all_nodes}
+use Rattle.spec_syntax.specs.Grammar.{Grammar}
+use Rattle.struct_model.specs.Structure.{Structure, inserted, ascending, labels, size, key}
+use Rattle.struct_model.specs.Listing.{IsIn, IsOne, Lists}
+use Rattle.struct_model.specs.Bounded.{bounds, bounded, greatest, argument_count, most_arguments, listing, up_to_height}
+use Rattle.struct_model.proofs.ListingLaws.{one_listing}
+use Rattle.well_founded.specs.Names.{are_plain}
+use Rattle.well_founded.specs.Nodes.{node_at}
+use Rattle.well_founded.specs.Rank.{AreRanks}
+use Rattle.well_founded.proofs.NodesLaws.{in_nodes, node_of}
+use Rattle.listing_laws.specs.Laws.{IsListing}
+use Rattle.listing_laws.proofs.Labels.{Each, from_ascending, inserted_first, inserted_later}
+use Rattle.listing_laws.proofs.FilterLaws.{listing_within_is}
+use Rattle.listing_laws.proofs.Supplies.{at_most_greatest}
+use Rattle.listing_laws.proofs.Ranked.{rank_of, one_less, within, name_within, suffix_within}
+
+length-inserted : (x : ℕ) (ms : List ℕ) → length (inserted x ms) ≡ suc (length ms)
+length-inserted x [] = refl
+length-inserted x (m ∷ ms) = elim (cases_lt m x) [
+  | inl above ↦ ap length (inserted_later x m ms above) ∙ ap suc (length-inserted x ms)
+  | inr below ↦ ap length (inserted_first x m ms below)
+]
+
+length-ascending : (xs : List ℕ) → length (ascending xs) ≡ length xs
+length-ascending [] = refl
+length-ascending (x ∷ xs) = length-inserted x (ascending xs) ∙ ap suc (length-ascending xs)
+
+room : (k total : ℕ) → k * total + total < (k + 2) * (total + 2)
+room k total = grind arith
+
+-- where all structures with the labels lie within the bounds, they are the listing
+pub listing_from : (g : Grammar) (e : Expression) → ((u : List ℕ) (s : Structure) → IsOne g e u s → IsIn s (bounded (bounds g u))) → IsListing g e
+unfolding listing
+listing_from g e inside = record {
+  lists = λ u supplied. listing_is u;
+  only = λ u ss supplied l. one_listing g e u ss (listing g e u) l (listing_is u);
+}
+  where
+    listing_is : (u : List ℕ) → Lists g e u (listing g e u)
+    listing_is u = listing_within_is (bounds g u) g e u (inside u)
+
+pub label_bound : (g : Grammar) (u : List ℕ) (s : Structure) → key s ≡ u → Each (λ l. l ≤ (bounds g u).label) (labels s)
+label_bound g u s same =
+    from_ascending (λ l. l ≤ (bounds g u).label) (labels s) (subst (Each (λ l. l ≤ (bounds g u).label)) (sym same) (at_most_greatest (bounds g u).label u (omega arith)))
+
+-- none of these has more than the greatest number of arguments
+few_arguments : (es : List Expression) (e : Expression) → IsIn e es → argument_count e ≤ greatest (map argument_count es)
+few_arguments [] e there = absurd there
+few_arguments (first ∷ es) e (inl same) = omega (arith, ap argument_count same)
+few_arguments (first ∷ es) e (inr there) = omega (arith, few_arguments es e there)
+
+narrow : (g : Grammar) (n : ℕ) (e : Expression) → node_at g.rules n ≡ Some e → argument_count e ≤ most_arguments g.rules
+narrow g n e there = few_arguments (all_nodes g.rules) e (in_nodes g.rules n e there)
+
+pub size_is : (u : List ℕ) (s : Structure) → key s ≡ u → size s ≡ length u
+size_is u s same = sym (length-ascending (labels s)) ∙ ap length same
+
+module _ (g : Grammar) (plain : are_plain g.rules ≡ true) (ranks : List ℕ) (ranked : AreRanks g ranks) where
+  abbrev total : ℕ
+  total = length (all_nodes g.rules)
+
+  height_room : (u : List ℕ) (s : Structure) → key s ≡ u → size s * total + total < (bounds g u).height
+  height_room u s same = omega (arith, room (length u) total, ap (λ (k : ℕ). k * total) (size_is u s same))
+
+  pub node_lists : (e : Expression) → IsIn e (all_nodes g.rules) → IsListing g e
+  node_lists e there =
+      let node = node_of g.rules e there in
+      let has = rank_of g plain ranks ranked node.0 e node.1 in
+      listing_from g e (λ u s p.
+      within g plain ranks ranked (bounds g u) (most_arguments g.rules) (omega arith) (omega arith) (omega arith) (narrow g)
+      s e has.0 (bounds g u).height (record { number = node.0; there = node.1; has_rank = has.1 }) p.0 (label_bound g u s p.1)
+      (omega (arith, has.2, height_room u s p.1)))
+
+  higher : (u : List ℕ) (s : Structure) → key s ≡ u → ((h : ℕ) → size s * total + total ≤ h → IsIn s (up_to_height (bounds g u) (suc h))) → IsIn s (bounded (bounds g u))
+  higher u s same inside =
+      let less = one_less (bounds g u).height (size s * total + total) (height_room u s same) in
+      subst (λ (n : ℕ). IsIn s (up_to_height (bounds g u) n)) (sym less.1) (inside less.0 less.2)
+
+  pub name_lists : (name : List ℕ) → IsListing g (expr.Name name)
+  name_lists name = listing_from g (expr.Name name) (λ u s p.
+      higher u s p.1 (λ h high.
+      name_within g plain ranks ranked (bounds g u) (most_arguments g.rules) (omega arith) (omega arith) (omega arith) (narrow g)
+      s name h p.0 (label_bound g u s p.1) high))
+
+  pub suffix_lists : (earlier later : List Expression) → IsIn (expr.Prod (expressions_of (earlier ++ later))) (all_nodes g.rules) → IsListing g (expr.Prod (expressions_of later))
+  suffix_lists earlier later there =
+      let node = node_of g.rules (expr.Prod (expressions_of (earlier ++ later))) there in
+      listing_from g (expr.Prod (expressions_of later)) (λ u s p.
+      higher u s p.1 (λ h high.
+      suffix_within g plain ranks ranked (bounds g u) (most_arguments g.rules) (omega arith) (omega arith) (omega arith) (narrow g)
+      s earlier later node.0 h node.1 p.0 (label_bound g u s p.1) high))
