@@ -1,58 +1,59 @@
 -- Laws of what a statement does.
-use Rattle.std.specs.Io.KnownBytes.{Consumes, IsAtEnd}
+use Rattle.std.specs.Io.KnownBytes.{Consumes}
 use Rattle.std.proofs.lemmas.Bool.Decides.{nat_tests}
 use Rattle.std.proofs.lemmas.List.{take_all, take-append-le, append-nil}
 use Rattle.spec_reader.specs.declared.refusal.Which.TheVariants as which
 use Rattle.spec_reader.specs.declared.refusal.ReadRefused.TheVariants as read
-use Rattle.comb_io.specs.Writes.{to_err}
 use Rattle.combstruct_cli.specs.declared.run.Status.TheVariants as status
 use Rattle.combstruct_cli.specs.declared.run.Outcome.TheVariants.{Done, Refused}
 use Rattle.combstruct_cli.specs.Outcome.{outcome_of}
-use Rattle.std.proofs.Common.{◌≡◌, ◌≢◌, ◌⊎◌, inl, inr, ◌<◌, ◌≤◌, ◌+◌, Bool, true, false, [], ◌∷◌, take, subst, leb, arith, ℕ, List, ◌++◌, length, replicate, codes, IsTrue, Option, Some, None, refl, sym, ap, ◌∙◌}
-use Rattle.std.specs.Option.{option_map, option_or}
-use Rattle.spec_syntax.specs.Expression.{Name}
-use Rattle.spec_syntax.specs.Rules.{Rules}
+use Rattle.std.proofs.Common.{suc, unwrap_or, option_map, is_some, if◌then◌else◌, ◌≡◌, ◌≢◌, ◌⊎◌, inl, inr, ◌<◌, ◌≤◌, ◌+◌, Bool, true, false, [], ◌∷◌, take, subst, leb, arith, ℕ, List, ◌++◌, length, replicate, codes, Option, Some, None, refl, sym, ap, ◌∙◌}
+use Rattle.std.specs.Option.{option_or}
+use Rattle.std.specs.Cmp.Lexicographic.{same_text}
+use Rattle.spec_syntax.specs.declared.statement.Universe.{Universe}
+use Rattle.spec_syntax.specs.declared.statement.Universe.TheVariants.{Unlabelled}
+use Rattle.spec_syntax.specs.Expression.{Expression, Name}
+use Rattle.spec_syntax.specs.Rules.{Rules, rule_name, is_same_name, symbol as symbol_of}
 use Rattle.struct_model.specs.Structure.{Structure, parts_of}
 use Rattle.struct_model.specs.Text.{maple_parts}
-use Rattle.listing_laws.specs.Lister.{lists_to_depth}
-use Rattle.listing_laws.specs.Later.{are_plain, name_without_rule, backward_name}
-use Rattle.listing_laws.proofs.Listed.{later_rules_are_listed}
-use Rattle.listing_laws.proofs.LaterTests.{later_by_names}
-use Rattle.combstruct_cli.specs.declared.refusal.Refusal.TheVariants.{Read, Undefined, Backward}
-use Rattle.combstruct_cli.specs.Input.{TookOver}
-use Rattle.combstruct_cli.specs.Unlabelled.{unlabelled}
-use Rattle.combstruct_cli.specs.Names.{undefined_name}
-use Rattle.combstruct_cli.specs.Answer.{writing, refusing, refusing_or, refusal_of, listing_text, effect_of_listing, nothing, place_in, refusing_long, refusing_syntax, refusing_second, usage, Answer, status_of, AnswersScript, IsAnswer}
+use Rattle.struct_model.specs.Bounded.{listing}
+use Rattle.well_founded.specs.Names.{name_without_rule, symbol_without_rule, undefined_name}
+use Rattle.well_founded.specs.Checked.{Checked, grammar}
+use Rattle.well_founded.specs.declared.refused.Refused.{Refused as GrammarRefused}
+use Rattle.well_founded.specs.declared.refused.Refused.TheVariants as refusal
+use Rattle.well_founded.proofs.NodesLaws.{found_rule}
+use Rattle.combstruct_cli.specs.declared.refusal.Refusal.TheVariants.{Read}
+use Rattle.combstruct_cli.specs.NodeListing.{listing_of_rule}
+use Rattle.combstruct_cli.specs.Input.{IsSpent, TookOver}
+use Rattle.combstruct_cli.specs.Answer.{refusing, listing_text, nothing, place_in, refusing_long, refusing_syntax, refusing_second, usage_answer, Answer, status_of, AnswersScript, IsAnswer}
 
-none_first : {A : Type 0} (a b : Option A) → option_or a b ≡ None → a ≡ None
-none_first None b e = refl
-none_first (Some x) b e = cc
+-- the rule of a name has the name
+rule_named : (rules : Rules) (symbol : List ℕ) (n : ℕ) → symbol_of rules symbol ≡ Some n → rule_name rules n ≡ symbol
+rule_named rules symbol n found =
+    let rule = found_rule (λ rule. is_same_name rule.0 symbol) rules 1 n found in
+    let number : suc rule.0 ≡ n = omega (arith, rule.2) in
+    ap (rule_name rules) (sym number)
+    ∙ ap (λ (o : Option (List ℕ × Expression)). unwrap_or (option_map (λ (r : List ℕ × Expression). r.0) o) []) rule.3
+    ∙ same_text rule.1.0 symbol (sym rule.4)
 
-none_second : {A : Type 0} (a b : Option A) → option_or a b ≡ None → b ≡ None
-none_second None b e = e
-none_second (Some x) b e = cc
+-- the text of the listing of a checked class is that of the class
+pub text_listed : (checked : Checked) (symbol : List ℕ) (n size : ℕ) → checked.universe ≡ Unlabelled → symbol_of checked.rules symbol ≡ Some n
+    → codes "[" ++ maple_parts checked.rules (parts_of (listing_of_rule checked n size)) ++ codes "]\n" ≡ listing_text checked.rules symbol size
+text_listed checked symbol n size universe found =
+    ap (λ (ss : List Structure). codes "[" ++ maple_parts checked.rules (parts_of ss) ++ codes "]\n")
+    (ap (λ (name : List ℕ). listing (grammar checked) (Name name) (replicate size 0)) (rule_named checked.rules symbol n found)
+    ∙ ap (λ (u : Universe). listing (record { rules = checked.rules; universe = u }) (Name symbol) (replicate size 0)) universe)
 
-none_inside : {A B : Type 0} (f : A → B) (a : Option A) → option_map f a ≡ None → a ≡ None
-none_inside f None e = refl
-none_inside f (Some x) e = cc
+-- where no name is undefined, the class symbol has a rule
+pub symbol_defined : (rules : Rules) (symbol : List ℕ) → undefined_name rules (Some symbol) ≡ None → symbol_of rules symbol ≢ None
+symbol_defined rules symbol defined none = by (name_without_rule rules) defined
+  where
+    lacking : symbol_without_rule rules (Some symbol) ≡ Some symbol
+    lacking = ap (λ (found : Option ℕ). if is_some found then None else Some symbol) none
 
-module _ (rules : Rules) (symbol : List ℕ) (none : refusal_of rules symbol ≡ None) where
-  without_rule : name_without_rule rules ≡ None
-  without_rule = none_first (name_without_rule rules) _ (none_inside (λ name. Undefined name) (undefined_name rules symbol) (none_first (option_map (λ name. Undefined name) (undefined_name rules symbol)) _ none))
-
-  backward : backward_name rules ≡ None
-  backward = none_inside (λ name. Backward name) (backward_name rules) (none_second (option_map (λ name. Undefined name) (undefined_name rules symbol)) _ none)
-
-  -- where nothing refuses the class, what is listed to the depth of all rules is its listing
-  pub listing_text-listed : (size : ℕ) → IsTrue (are_plain rules)
-      → codes "[" ++ maple_parts rules (parts_of (lists_to_depth (unlabelled rules) (length rules) (Name symbol) (replicate size 0))) ++ codes "]\n" ≡ listing_text rules symbol size
-  listing_text-listed size plain =
-      ap (λ (ss : List Structure). codes "[" ++ maple_parts rules (parts_of ss) ++ codes "]\n")
-      (sym ((later_rules_are_listed.names (unlabelled rules) symbol (later_by_names.by_first rules without_rule backward) plain).at_size size))
-
-  -- and its text is all that the statement writes
-  pub effect_of_listing-listed : (size line : ℕ) → effect_of_listing rules symbol size line ≡ writing (listing_text rules symbol size)
-  effect_of_listing-listed size line = ap (λ r. refusing_or line r (writing (listing_text rules symbol size))) none
+    by : (first : Option (List ℕ)) → option_or first (symbol_without_rule rules (Some symbol)) ≡ None → ⊥
+    by None h = let some : Some symbol ≡ None = sym lacking ∙ h in absurd (cc)
+    by (Some name) h = absurd (cc)
 
 -- a script is too long or not
 pub refusing_long-short : (script : List ℕ) → length script ≤ 16777216 → nothing ≡ refusing_long script
@@ -83,16 +84,20 @@ taken_within most given script rest split at_end bound = cut (leb (length script
         sym (ap (take (most + 1)) split ∙ take-append-le (most + 1) script rest full ∙ front)
 
 -- the bytes that were taken are those of the script, up to one more than the most
-pub taken_whole : (most : ℕ) (given script : List ℕ) (left left' : Option (List ℕ)) → left ≡ Some given → Consumes left left' script → (length script ≤ most → IsAtEnd left')
+pub taken_whole : (most : ℕ) (given script : List ℕ) (left left' : Option (List ℕ)) → left ≡ Some given → Consumes left left' script → (length script ≤ most → IsSpent left left')
     → length script ≤ most + 1 → script ≡ take (most + 1) given
-taken_whole most given script left left' told taken at_end bound = by left' (subst (λ (l : Option (List ℕ)). Consumes l left' script) told taken) at_end
+taken_whole most given script left left' told taken at_end bound =
+    by left' (subst (λ (l : Option (List ℕ)). Consumes l left' script) told taken) (λ short. subst (λ (l : Option (List ℕ)). IsSpent l left') told (at_end short))
   where
-    by : (left' : Option (List ℕ)) → Consumes (Some given) left' script → (length script ≤ most → IsAtEnd left') → script ≡ take (most + 1) given
+    some_injective : {xs ys : List ℕ} → Some xs ≡ Some ys → xs ≡ ys
+    some_injective same = cc
+
+    by : (left' : Option (List ℕ)) → Consumes (Some given) left' script → (length script ≤ most → left' ≡ Some []) → script ≡ take (most + 1) given
     by None gone at_end = absurd gone
-    by (Some rest) split at_end = taken_within most given script rest split at_end bound
+    by (Some rest) split at_end = taken_within most given script rest split (λ short. some_injective (at_end short)) bound
 
 -- an answer to words is the usage line
-pub IsAnswer-words : {W : Type 0} (words : List W) (given : List ℕ) (answer : Answer) → words ≢ [] → IsAnswer words given answer → answer ≡ record { writes = to_err usage; status = status.Words }
+pub IsAnswer-words : {W : Type 0} (words : List W) (given : List ℕ) (answer : Answer) → words ≢ [] → IsAnswer words given answer → answer ≡ usage_answer
 IsAnswer-words [] given answer some is = absurd (some refl)
 IsAnswer-words (word ∷ words) given answer some is = is
 
@@ -109,13 +114,22 @@ pub status-refused : (b : Bool) → Refused ≡ outcome_of b → status_of b ≡
 status-refused true e = refl
 status-refused false e = absurd (cc)
 
+pub within_or_over : (n m : ℕ) → (n ≤ m) ⊎ (m < n)
+within_or_over n m = grind (arith)
+
 -- what was taken ends with the source, or is over the most
-pub end_or_over : (most : ℕ) (script : List ℕ) (left left' : Option (List ℕ)) → Consumes left left' script → (length script ≤ most → IsAtEnd left') → IsAtEnd left' ⊎ TookOver most left left'
+pub end_or_over : (most : ℕ) (script : List ℕ) (left left' : Option (List ℕ)) → Consumes left left' script → (length script ≤ most → IsSpent left left') → IsSpent left left' ⊎ TookOver most left left'
 end_or_over most script left left' taken at_end = by (within_or_over (length script) most)
   where
-    within_or_over : (n m : ℕ) → (n ≤ m) ⊎ (m < n)
-    within_or_over n m = grind (arith)
-
-    by : (length script ≤ most) ⊎ (most < length script) → IsAtEnd left' ⊎ TookOver most left left'
+    by : (length script ≤ most) ⊎ (most < length script) → IsSpent left left' ⊎ TookOver most left left'
     by (inl within) = inl (at_end within)
     by (inr over) = inr (record { taken = script; over = over; took = taken })
+
+-- is memory wanting
+pub is_memory_refused : (refused : GrammarRefused) → (refused ≡ refusal.Memory) ⊎ (refused ≢ refusal.Memory)
+is_memory_refused (refusal.Undefined name) = inr (λ e. cc)
+is_memory_refused (refusal.CycleUnlabelled name) = inr (λ e. cc)
+is_memory_refused (refusal.Unproductive name) = inr (λ e. cc)
+is_memory_refused (refusal.NullElement name) = inr (λ e. cc)
+is_memory_refused (refusal.Endless name n) = inr (λ e. cc)
+is_memory_refused refusal.Memory = inl refl

@@ -1,6 +1,8 @@
 pub mod AnswerLemmas
-pub mod ListLemmas
-pub mod NameLemmas
+pub mod ColumnLemmas
+pub mod InputLemmas
+pub mod ListerSteps
+pub mod NodeLemmas
 pub mod ReadingLemmas
 pub mod RunLemmas
 pub mod TextLemmas

@@ -10,7 +10,7 @@ use Rattle.spec_reader.specs.Grammar.{ExprTree, ExprTrees, RuleTree, StatementTr
 use Rattle.spec_reader.specs.Meaning.{expression_of, expressions_of_all, rule_of, meaning}
 use Rattle.spec_reader.specs.Reading.{ReadsAs, Answers}
 use Rattle.spec_reader.proofs.Pieces.{one-reading, one-fault, never-both}
-use Rattle.listing_laws.specs.Later.{is_no_container, is_plain, are_plain}
+use Rattle.well_founded.specs.Names.{is_no_container, is_plain, are_plain}
 use Rattle.spec_reader.specs.Reading.{IsFault, IsRefused}
 use Rattle.spec_reader.specs.declared.refusal.ReadRefused.TheVariants as read
 use Rattle.combstruct_cli.specs.Answer.{is_plain_form}

@@ -1,22 +1,46 @@
 -- Each script has one answer.
-use Rattle.std.proofs.Common.{◌≡◌, ◌⊎◌, inl, inr, ℕ, ◌+◌, ◌≤◌, ◌<◌, List, [], ◌∷◌, Option, Some, None, Result, take, slice_range, refl, sym, ap, ◌∙◌, arith}
+use Rattle.std.proofs.Common.{◌≡◌, ◌⊎◌, inl, inr, ℕ, ◌+◌, ◌≤◌, ◌<◌, List, [], ◌∷◌, IsTrue, Option, Some, None, Result, Ok, Err, subst, take, slice_range, refl, sym, ap, ◌∙◌, arith}
 use Rattle.spec_syntax.specs.declared.statement.Statement.{Statement}
+use Rattle.spec_syntax.specs.declared.statement.Form.{Form}
+use Rattle.spec_syntax.specs.declared.statement.Form.TheVariants as form
+use Rattle.spec_syntax.specs.declared.statement.Job.TheVariants as job
+use Rattle.spec_syntax.specs.declared.statement.ClassRef.TheVariants as class_ref
+use Rattle.spec_syntax.specs.declared.statement.RulesRef.TheVariants as rules_ref
+use Rattle.spec_reader.specs.declared.place.Place.{Place}
+use Rattle.spec_reader.specs.Reading.{Answers}
+use Rattle.spec_reader.specs.Laws.{FormKeeps}
+use Rattle.spec_reader.proofs.Keeps.{readings-keep}
+use Rattle.well_founded.specs.declared.refused.Refused.{Refused}
+use Rattle.well_founded.proofs.CheckExists.{says_some, says_one}
+use Rattle.combstruct_cli.specs.declared.refusal.Refusal.TheVariants.{Read}
+use Rattle.combstruct_cli.specs.Unlabelled.{unlabelled}
 use Rattle.spec_reader.specs.declared.refusal.ReadRefused.{ReadRefused}
 use Rattle.spec_reader.specs.Cutting.{first_piece_of}
 use Rattle.spec_reader.proofs.Pieces.{some-answer}
-use Rattle.combstruct_cli.specs.declared.run.Status.TheVariants as status
-use Rattle.comb_io.specs.Writes.{to_err}
-use Rattle.combstruct_cli.specs.Answer.{Effect, Answer, RunsPiece, RunsFirst, Runs, effect_of_piece, effect_after, followed_by, place_in, refusing_long, most_bytes, status_of, usage}
+use Rattle.combstruct_cli.specs.Answer.{Effect, Answer, RunsPiece, RunsFirst, Runs, StatementDoes, PieceDoes, effect_of_listing, nothing, refusing, is_plain_form, effect_after, followed_by, place_in, refusing_long, most_bytes, status_of, usage_answer}
 use Rattle.combstruct_cli.specs.Laws.{SomeAnswer, OneAnswer}
-use Rattle.combstruct_cli.proofs.ReadingLemmas.{answers_same}
+use Rattle.combstruct_cli.proofs.AnswerLemmas.{within_or_over}
+use Rattle.combstruct_cli.proofs.ReadingLemmas.{answers_same, is_plain_form-read}
 
-early : (n m : ℕ) → (n ≤ m) ⊎ (m < n)
-early n m = grind (arith)
+-- a statement that is read does something
+some-statement : (f : Form) (line : ℕ) → IsTrue (is_plain_form f) → FormKeeps f → (whole : Effect) × StatementDoes f line whole
+some-statement (form.List (job.Grammar (class_ref.Written symbol (rules_ref.Written rules) universe) size)) line plain keeps =
+    let said = says_some (unlabelled rules) (Some symbol) keeps plain in
+    (effect_of_listing said.0 rules symbol size line, record { said = said.0; checks = said.1; does = refl })
+some-statement other line plain keeps = (nothing, refl)
+
+-- and so does a piece
+some-piece : (place : Place) (piece : List ℕ) (reading : Result Statement ReadRefused) (line : ℕ) → Answers place piece reading → (whole : Effect) × PieceDoes reading line whole
+some-piece place piece (Ok statement) line reads = some-statement statement.form line (is_plain_form-read piece statement reads) (readings-keep piece statement reads)
+some-piece place piece (Err why) line reads = (refusing line (Read why), refl)
 
 runs-piece : (script : List ℕ) (start end : ℕ) → (whole : Effect) × RunsPiece script start end whole
 runs-piece script start end =
-    let read = some-answer (place_in script start) (slice_range script start end) in
-    (followed_by (effect_of_piece read.0 (place_in script start).line) (effect_after script end), record { reading = read.0; reads = read.1; does = refl })
+    let place = place_in script start in
+    let piece = slice_range script start end in
+    let read = some-answer place piece in
+    let first = some-piece place piece read.0 place.line read.1 in
+    (followed_by first.0 (effect_after script end), record { reading = read.0; reads = read.1; first = first.0; first_does = first.1; does = refl })
 
 some-of-early : (script : List ℕ) (start end : ℕ) → (end ≤ most_bytes) ⊎ (most_bytes < end) → (whole : Effect) × RunsFirst script (Some (start, end)) whole
 some-of-early script start end (inl early) = let runs = runs-piece script start end in (runs.0, inl (early, runs.1))
@@ -24,7 +48,7 @@ some-of-early script start end (inr late) = (refusing_long script, inr (late, re
 
 some-first : (script : List ℕ) (piece : Option (ℕ × ℕ)) → (whole : Effect) × RunsFirst script piece whole
 some-first script None = (refusing_long script, refl)
-some-first script (Some (start, end)) = some-of-early script start end (early end most_bytes)
+some-first script (Some (start, end)) = some-of-early script start end (within_or_over end most_bytes)
 
 some-effect : (script : List ℕ) → (whole : Effect) × Runs script whole
 some-effect script = some-first (take (most_bytes + 1) script) (first_piece_of (take (most_bytes + 1) script))
@@ -33,12 +57,28 @@ pub some-script : {W : Type 0} (words : List W) → SomeAnswer words
 some-script [] script =
     let does = some-effect script in
     (record { writes = does.0.writes; status = status_of does.0.is_refused }, record { whole = does.0; runs = does.1; writes = refl; status = refl })
-some-script (word ∷ words) script = (record { writes = to_err usage; status = status.Words }, refl)
+some-script (word ∷ words) script = (usage_answer, refl)
+
+-- a statement that is read does nothing else
+pub one-statement : (f : Form) (line : ℕ) (one other : Effect) → FormKeeps f → StatementDoes f line one → StatementDoes f line other → one ≡ other
+one-statement (form.List (job.Grammar (class_ref.Written symbol (rules_ref.Written rules) universe) size)) line one other keeps p q =
+    let same = says_one (unlabelled rules) (Some symbol) p.said q.said keeps p.checks q.checks in
+    p.does ∙ ap (λ (said : Option Refused). effect_of_listing said rules symbol size line) same ∙ sym q.does
+one-statement other_form line one other keeps p q = p ∙ sym q
+
+one-reading : (place : Place) (piece : List ℕ) (reading : Result Statement ReadRefused) (line : ℕ) (one other : Effect) → Answers place piece reading
+    → PieceDoes reading line one → PieceDoes reading line other → one ≡ other
+one-reading place piece (Ok statement) line one other reads p q = one-statement statement.form line one other (readings-keep piece statement reads) p q
+one-reading place piece (Err why) line one other reads p q = p ∙ sym q
 
 one-piece : (script : List ℕ) (start end : ℕ) (one other : Effect) → RunsPiece script start end one → RunsPiece script start end other → one ≡ other
 one-piece script start end one other p q =
-    let same = answers_same (place_in script start) (slice_range script start end) p.reading q.reading p.reads q.reads in
-    p.does ∙ ap (λ (r : Result Statement ReadRefused). followed_by (effect_of_piece r (place_in script start).line) (effect_after script end)) same ∙ sym q.does
+    let place = place_in script start in
+    let piece = slice_range script start end in
+    let same = answers_same place piece p.reading q.reading p.reads q.reads in
+    let first : p.first ≡ q.first =
+    one-reading place piece q.reading place.line p.first q.first q.reads (subst (λ (r : Result Statement ReadRefused). PieceDoes r place.line p.first) same p.first_does) q.first_does in
+    p.does ∙ ap (λ (e : Effect). followed_by e (effect_after script end)) first ∙ sym q.does
 
 one-first : (script : List ℕ) (piece : Option (ℕ × ℕ)) (one other : Effect) → RunsFirst script piece one → RunsFirst script piece other → one ≡ other
 one-first script None one other p q = p ∙ sym q

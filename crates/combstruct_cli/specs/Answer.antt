@@ -1,6 +1,5 @@
 -- The answer to words and a script: what is written to the two outputs, and the status.
 use Rattle.std.specs.Prelude.{◌≡◌, ◌⊎◌, ℕ, ◌+◌, ◌<◌, ◌≤◌, Bool, true, false, ◌||◌, nat_lt, List, [], ◌∷◌, ◌++◌, length, take, drop, slice_range, codes, Option, Some, None, Result, Ok, Err, if◌then◌else◌}
-use Rattle.std.specs.Option.{option_map, option_or}
 use Rattle.spec_syntax.specs.declared.statement.Universe.TheVariants.{Unlabelled}
 use Rattle.spec_syntax.specs.declared.statement.RulesRef.TheVariants as rules_ref
 use Rattle.spec_syntax.specs.declared.statement.ClassRef.TheVariants as class_ref
@@ -21,14 +20,15 @@ use Rattle.struct_model.specs.Structure.{parts_of}
 use Rattle.struct_model.specs.Membership.{supply}
 use Rattle.struct_model.specs.Bounded.{listing}
 use Rattle.struct_model.specs.Text.{maple_parts}
-use Rattle.listing_laws.specs.Later.{backward_name, are_plain}
+use Rattle.well_founded.specs.declared.refused.Refused.{Refused}
+use Rattle.well_founded.specs.Names.{are_plain}
+use Rattle.well_founded.specs.WellFounded.{Checks}
 use Rattle.comb_io.specs.Writes.{Write, to_out, to_err}
 use Rattle.combstruct_cli.specs.declared.refusal.Refusal.{Refusal}
-use Rattle.combstruct_cli.specs.declared.refusal.Refusal.TheVariants.{Read, Undefined, Backward}
+use Rattle.combstruct_cli.specs.declared.refusal.Refusal.TheVariants.{Read, Grammar}
 use Rattle.combstruct_cli.specs.declared.run.Status.{Status}
 use Rattle.combstruct_cli.specs.declared.run.Status.TheVariants as status
 use Rattle.combstruct_cli.specs.Unlabelled.{unlabelled}
-use Rattle.combstruct_cli.specs.Names.{undefined_name}
 use Rattle.combstruct_cli.specs.Refusals.{refusal_line}
 
 -- what a part of a script does: its writes, and whether it is refused
@@ -54,32 +54,31 @@ abbrev pub listing_text : Rules → List ℕ → ℕ → List ℕ
 listing_text rules symbol size =
     codes "[" ++ maple_parts rules (parts_of (listing (unlabelled rules) (Name symbol) (supply Unlabelled size))) ++ codes "]\n"
 
--- why a listing of a class is refused, if it is
-abbrev pub refusal_of : Rules → List ℕ → Option Refusal
-refusal_of rules symbol = option_or (option_map (λ name. Undefined name) (undefined_name rules symbol)) (option_map (λ name. Backward name) (backward_name rules))
+-- what `allstructs` of a class at a size does, in a statement that begins in this line, where the check says this of the class
+abbrev pub effect_of_listing : Option Refused → Rules → List ℕ → ℕ → ℕ → Effect
+effect_of_listing None rules symbol size line = writing (listing_text rules symbol size)
+effect_of_listing (Some refused) rules symbol size line = refusing line (Grammar refused)
 
-abbrev pub refusing_or : ℕ → Option Refusal → Effect → Effect
-refusing_or line None otherwise = otherwise
-refusing_or line (Some refusal) otherwise = refusing line refusal
+-- `allstructs` of a class at a size does this, in a statement that begins in this line
+pub record ListingDoes (rules : Rules) (symbol : List ℕ) (size line : ℕ) (whole : Effect) : Type 0 where
+  pub said : Option Refused
+  pub checks : Checks (unlabelled rules) (Some symbol) said
+  pub does : whole ≡ effect_of_listing said rules symbol size line
 
--- what `allstructs` of a class at a size does, in a statement that begins in this line
-abbrev pub effect_of_listing : Rules → List ℕ → ℕ → ℕ → Effect
-effect_of_listing rules symbol size line = refusing_or line (refusal_of rules symbol) (writing (listing_text rules symbol size))
-
--- what a statement does that begins in this line. No other statement is read yet
-abbrev pub effect : Form → ℕ → Effect
-effect (form.List (job.Grammar (class_ref.Written symbol (rules_ref.Written rules) universe) size)) line = effect_of_listing rules symbol size line
-effect other line = nothing
+-- a statement that begins in this line does this. No other statement is read yet
+abbrev pub StatementDoes : Form → ℕ → Effect → Type 0
+StatementDoes (form.List (job.Grammar (class_ref.Written symbol (rules_ref.Written rules) universe) size)) line whole = ListingDoes rules symbol size line whole
+StatementDoes other line whole = whole ≡ nothing
 
 -- does no container stand in the rules of the statement
 abbrev pub is_plain_form : Form → Bool
 is_plain_form (form.List (job.Grammar (class_ref.Written symbol (rules_ref.Written rules) universe) size)) = are_plain rules
 is_plain_form other = true
 
--- what a piece does that begins in this line, as it reads
-abbrev pub effect_of_piece : Result Statement ReadRefused → ℕ → Effect
-effect_of_piece (Ok statement) line = effect statement.form line
-effect_of_piece (Err why) line = refusing line (Read why)
+-- a piece that begins in this line does this, as it reads
+abbrev pub PieceDoes : Result Statement ReadRefused → ℕ → Effect → Type 0
+PieceDoes (Ok statement) line whole = StatementDoes statement.form line whole
+PieceDoes (Err why) line whole = whole ≡ refusing line (Read why)
 
 abbrev pub first_place : Place
 first_place = record { line = 1; column = 1 }
@@ -115,7 +114,9 @@ effect_after script end = refusing_rest script end (first_piece_of (drop end scr
 pub record RunsPiece (script : List ℕ) (start end : ℕ) (whole : Effect) : Type 0 where
   pub reading : Result Statement ReadRefused
   pub reads : Answers (place_in script start) (slice_range script start end) reading
-  pub does : whole ≡ followed_by (effect_of_piece reading (place_in script start).line) (effect_after script end)
+  pub first : Effect
+  pub first_does : PieceDoes reading (place_in script start).line first
+  pub does : whole ≡ followed_by first (effect_after script end)
 
 -- the first piece is run where it ends early enough
 abbrev pub RunsFirst : List ℕ → Option (ℕ × ℕ) → Effect → Type 0
@@ -139,6 +140,10 @@ abbrev pub status_of : Bool → Status
 status_of true = status.SomeRefused
 status_of false = status.Well
 
+-- the answer to words that aren't in form
+abbrev pub usage_answer : Answer
+usage_answer = record { writes = to_err usage; status = status.Words }
+
 -- what is answered to a script without words: its effect
 pub record AnswersScript (script : List ℕ) (answer : Answer) : Type 0 where
   pub whole : Effect
@@ -149,4 +154,4 @@ pub record AnswersScript (script : List ℕ) (answer : Answer) : Type 0 where
 -- the answer to words and a script. No word is in form yet
 abbrev pub IsAnswer : {W : Type 0} → List W → List ℕ → Answer → Type 0
 IsAnswer [] script answer = AnswersScript script answer
-IsAnswer (word ∷ words) script answer = answer ≡ record { writes = to_err usage; status = status.Words }
+IsAnswer (word ∷ words) script answer = answer ≡ usage_answer

@@ -1,6 +1,6 @@
 -- What taking bytes from a source does.
-use Rattle.std.specs.Prelude.{◌≡◌, ℕ, ◌≤◌, ◌<◌, ⊤, List, ◌++◌, length, Option, IfErr, Result}
-use Rattle.std.specs.Io.KnownBytes.{Consumes}
+use Rattle.std.specs.Prelude.{◌≡◌, ℕ, ◌≤◌, ◌<◌, ⊤, List, [], ◌++◌, length, Option, Some, None, IfErr, Result}
+use Rattle.std.specs.Io.KnownBytes.{Consumes, IsAtEnd}
 use Rattle.comb_io.specs.Faults.{Rose}
 use Rattle.combstruct_cli.specs.declared.input.InputFault.{InputFault}
 use Rattle.combstruct_cli.specs.declared.input.InputFault.TheVariants.{Failed, Memory}
@@ -22,8 +22,19 @@ pub record Took (left left' : Option (List ℕ)) (old new : List ℕ) (count : �
   pub grown : new ≡ old ++ piece
   pub counted : length piece ≡ count
 
+-- what was taken is the front of what was left, and no more bytes than this
+pub record TookWithin (most : ℕ) (left left' : Option (List ℕ)) : Type 0 where
+  pub taken : List ℕ
+  pub within : length taken ≤ most
+  pub took : Consumes left left' taken
+
 -- more bytes than this were taken
 pub record TookOver (most : ℕ) (left left' : Option (List ℕ)) : Type 0 where
   pub taken : List ℕ
   pub over : most < length taken
   pub took : Consumes left left' taken
+
+-- nothing is left: a source that told its bytes before tells so, and another one tells nothing else
+abbrev pub IsSpent : Option (List ℕ) → Option (List ℕ) → Type 0
+IsSpent None left' = IsAtEnd left'
+IsSpent (Some given) left' = left' ≡ Some []

@@ -1,7 +1,9 @@
 pub mod Input
 pub mod Unlabelled
-pub mod Names
 pub mod Refusals
 pub mod Outcome
+pub mod Columns
+pub mod ColumnView
+pub mod NodeListing
 pub mod Answer
 pub mod Laws

@@ -1,4 +1,4 @@
--- How a run ends before its script does.
+-- How a run and its parts end: what was written by then, and why it may have ended early.
 use Rattle.std.specs.Prelude.{◌≡◌, ℕ, ◌≤◌, ◌⊎◌, ⊤, Bool, true, false, List, Option, IfErr, Result, Ok, Err}
 use Rattle.comb_io.specs.Faults.{Rose}
 use Rattle.comb_io.specs.Writes.{Wrote, WrotePrefix, WroteProperPrefix}

@@ -1,7 +1,7 @@
 //! The script of a source, taken whole.
-ghost use Rattle.std.specs.Prelude.{◌≡◌, ℕ, ◌+◌, ◌<◌, ◌≤◌, [], vec_len, IfOk, length};
+ghost use Rattle.std.specs.Prelude.{◌≡◌, ℕ, ◌+◌, ◌-◌, ◌<◌, ◌≤◌, [], vec_len, IfOk, length};
 ghost use Rattle.std.specs.Io.KnownBytes.{Consumes, IsAtEnd};
-ghost use Rattle.combstruct_cli.specs.Input.{HasInputCause, Took};
+ghost use Rattle.combstruct_cli.specs.Input.{HasInputCause, IsSpent, Took, TookWithin};
 
 use comb_io::{Failed, Source};
 use std::alloc::{AllocError, Global};
@@ -49,6 +49,7 @@ impl From<AllocError> for InputFault {
 fn read_more<S: Source>(input: &mut S, script: &mut Vec<u8>) -> Result<usize, InputFault>
     requires { vec_len script.old ≤ MOST_BYTES }
     ensures taken { IfOk result (λ count. Took (S.left input.old) (S.left input.new) script.old.items script.new.items count) }
+    ensures front { TookWithin (MOST_BYTES + 1 - vec_len script.old) (S.left input.old) (S.left input.new) }
     ensures end { IfOk result (λ count. count ≡ 0 → IsAtEnd (S.left input.new)) }
     ensures bound { IfOk result (λ _. vec_len script.new ≤ MOST_BYTES + 1) }
     ensures cause { HasInputCause (S.faults input.old) (S.faults input.new) result }
@@ -64,7 +65,8 @@ fn read_more<S: Source>(input: &mut S, script: &mut Vec<u8>) -> Result<usize, In
 /// Takes the bytes of the source to its end, but at most one more than a script may have.
 pub(crate) fn read_script<S: Source>(alloc: Global, input: &mut S) -> Result<Vec<u8>, InputFault>
     ensures taken { IfOk result (λ script. Consumes (S.left input.old) (S.left input.new) script.items) }
-    ensures end { IfOk result (λ script. vec_len script ≤ MOST_BYTES → IsAtEnd (S.left input.new)) }
+    ensures front { TookWithin (MOST_BYTES + 1) (S.left input.old) (S.left input.new) }
+    ensures end { IfOk result (λ script. vec_len script ≤ MOST_BYTES → IsSpent (S.left input.old) (S.left input.new)) }
     ensures bound { IfOk result (λ script. vec_len script ≤ MOST_BYTES + 1) }
     ensures cause { HasInputCause (S.faults input.old) (S.faults input.new) result }
 {

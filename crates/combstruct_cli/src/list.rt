@@ -1,17 +1,18 @@
-//! The structures of an expression of one size in the unlabelled universe, in ascending order.
+//! The structures of a class of one size in the unlabelled universe, in ascending order.
 //!
-//! Names are followed to a depth: so many rules may stand inside one another. Where each rule uses only later ones, the
-//! number of rules is deep enough.
-ghost use Rattle.std.specs.Prelude.{◌≡◌, ℕ, ◌+◌, ◌*◌, ◌^◌, ◌<◌, ◌≤◌, [], ◌∷◌, ◌++◌, List, length, map, replicate, All, IfOk, OnOk, OnErr, if◌then◌else◌};
-ghost use Rattle.spec_syntax.specs.Expression.{nodes, nodes_of_all, expressions_of};
-ghost use Rattle.struct_model.specs.Structure.{Structure, Alt as Alternative, labels_of_parts, parts_of};
-ghost use Rattle.listing_laws.specs.Lister.{alternatives, list_each, list_components, list_no_components, each_before, lists_to_depth, names_to_depth, product, named as named_by};
-ghost use Rattle.listing_laws.specs.BySize.{by_sizes, list_of_size, components_of_size};
-ghost use Rattle.combstruct_cli.specs.Unlabelled.{unlabelled};
+//! A listing goes from a node of the grammar down to those below it. The size never grows on the way, and where it stays
+//! the rank falls.
+ghost use Rattle.std.specs.Prelude.{◌≡◌, ◌+◌, ◌^◌, ◌<◌, ◌≤◌, [], ◌∷◌, ◌++◌, length, map, replicate, All, IfOk, OnOk, OnErr, if◌then◌else◌};
+ghost use Rattle.spec_syntax.specs.Rules.{all_nodes};
+ghost use Rattle.struct_model.specs.Structure.{Alt as Alternative, labels_of_parts, parts_of};
+ghost use Rattle.listing_laws.specs.Lister.{list_no_components, each_before, product, named as named_by};
+ghost use Rattle.combstruct_cli.specs.Columns.{of_size, column_to, products_of};
+ghost use Rattle.combstruct_cli.specs.ColumnView.{lists_of};
+ghost use Rattle.combstruct_cli.specs.NodeListing.{IsUnlabelled, HasKind, listing_of_rule, listing_of_node, least_at, columns_of};
 
-use spec_syntax::{Expr, ExprShape, Name, Spec};
 use std::alloc::{AllocError, Global};
 use struct_model::{Form5, Shape, Struct, Structs, copy};
+use well_founded::{Grammar, NodeKind};
 
 /// The structure alone where `is_there`, and none otherwise.
 fn list_one(alloc: Global, is_there: bool, s: Struct) -> Result<Vec<Struct>, AllocError>
@@ -24,64 +25,71 @@ fn list_one(alloc: Global, is_there: bool, s: Struct) -> Result<Vec<Struct>, All
     Ok(list)
 }
 
-/// The structures of an expression with n atoms.
+/// The structures of rule number `sym` with n atoms.
 #[cycle(listing)]
-pub(crate) fn list_expr(
+pub(crate) fn list_rule(
     alloc: Global,
-    spec: &Spec,
-    depth: u32,
-    expr: &Expr,
+    grammar: &Grammar,
+    sym: u32,
     n: u32,
 ) -> Result<Vec<Struct>, AllocError>
-    requires { nodes expr.now ≤ 128 }
-    ensures { IfOk result (λ list. list.items ≡ lists_to_depth (unlabelled spec.now) depth expr.now (replicate n 0)) }
+    requires grammar { IsUnlabelled grammar.now }
+    requires low { 1 ≤ sym }
+    requires high { sym ≤ length grammar.now.rules }
+    requires size { n ≤ 1000 }
+    ensures { IfOk result (λ list. list.items ≡ listing_of_rule grammar.now sym n) }
 {
-    match &expr.shape {
-        ExprShape::Epsilon => list_one(
+    let right = grammar.rule_node(sym);
+    match grammar.kind(right) {
+        NodeKind::Epsilon => list_one(
+            alloc,
+            n == 0,
+            Struct {
+                shape: Shape::Eps(sym),
+            },
+        ),
+        NodeKind::Atom => list_one(
+            alloc,
+            n == 1,
+            Struct {
+                shape: Shape::Atom(sym, 0),
+            },
+        ),
+        _ => {
+            let inside = list_node(alloc, grammar, right, n)?;
+            name_all(alloc, sym, inside)
+        }
+    }
+}
+
+/// The structures of a node with n atoms.
+#[cycle(listing)]
+fn list_node(alloc: Global, grammar: &Grammar, node: u32, n: u32) -> Result<Vec<Struct>, AllocError>
+    requires grammar { IsUnlabelled grammar.now }
+    requires node { node < length (all_nodes grammar.now.rules) }
+    requires size { n ≤ 1000 }
+    ensures { IfOk result (λ list. list.items ≡ listing_of_node grammar.now node n) }
+{
+    match grammar.kind(node) {
+        NodeKind::Epsilon => list_one(
             alloc,
             n == 0,
             Struct {
                 shape: Shape::Eps(0),
             },
         ),
-        ExprShape::Atom => list_one(
+        NodeKind::Atom => list_one(
             alloc,
             n == 1,
             Struct {
                 shape: Shape::Atom(0, 0),
             },
         ),
-        ExprShape::Name(name) => list_name(alloc, spec, depth, name, n),
-        ExprShape::Union(arguments) => list_union(alloc, spec, depth, arguments.as_slice(), n),
-        ExprShape::Prod(arguments) => {
-            let products = list_products(alloc, spec, depth, arguments.as_slice(), n)?;
-            wrap_products(alloc, products)
-        }
+        NodeKind::Rule => list_rule(alloc, grammar, grammar.sym(node), n),
+        NodeKind::Union => list_union(alloc, grammar, node, n),
+        NodeKind::Prod => list_prod(alloc, grammar, node, n),
         // No statement has a container yet.
-        ExprShape::Many(_, _, _) => Ok(Vec::new(alloc)),
-    }
-}
-
-/// The structures of the rule with this name with n atoms.
-#[cycle(listing)]
-pub(crate) fn list_name(
-    alloc: Global,
-    spec: &Spec,
-    depth: u32,
-    name: &Name,
-    n: u32,
-) -> Result<Vec<Struct>, AllocError>
-    ensures { IfOk result (λ list. list.items ≡ names_to_depth (unlabelled spec.now) depth name.now (replicate n 0)) }
-{
-    if depth == 0 {
-        return Ok(Vec::new(alloc));
-    }
-    match spec.find(name.as_slice()) {
-        None => Ok(Vec::new(alloc)),
-        Some(sym) => {
-            let inside = list_expr(alloc, spec, depth - 1, spec.right(sym), n)?;
-            name_all(alloc, sym, inside)
-        }
+        _ => Ok(Vec::new(alloc)),
     }
 }
 
@@ -120,20 +128,19 @@ fn name_all(alloc: Global, sym: u32, inside: Vec<Struct>) -> Result<Vec<Struct>,
 #[cycle(listing)]
 fn list_union(
     alloc: Global,
-    spec: &Spec,
-    depth: u32,
-    arguments: &[Expr],
+    grammar: &Grammar,
+    node: u32,
     n: u32,
 ) -> Result<Vec<Struct>, AllocError>
-    requires { nodes_of_all (expressions_of arguments.now) ≤ 128 }
-    ensures { IfOk result (λ list. list.items ≡ alternatives 1 (list_each (names_to_depth (unlabelled spec.now) depth) (expressions_of arguments.now) (replicate n 0))) }
+    requires grammar { IsUnlabelled grammar.now }
+    requires node { HasKind grammar.now node NodeKind.Union }
+    requires size { n ≤ 1000 }
+    ensures { IfOk result (λ list. list.items ≡ listing_of_node grammar.now node n) }
 {
     let mut list = Vec::new(alloc);
-    let mut number = 0;
-    for argument in arguments {
-        number += 1;
-        let inside = list_expr(alloc, spec, depth, argument, n)?;
-        push_alternatives(alloc, number, inside, &mut list)?;
+    for place in 0..grammar.children(node) {
+        let inside = list_node(alloc, grammar, grammar.child(node, place + 1), n)?;
+        push_alternatives(alloc, place + 1, inside, &mut list)?;
     }
     Ok(list)
 }
@@ -157,21 +164,85 @@ fn push_alternatives(
     Ok(())
 }
 
-/// The lists of components, one of each argument, with n atoms in all.
+/// The structures of a component by their size, from 0 up.
+#[derive(Drop)]
+struct Column {
+    sizes: Vec<Vec<Struct>>,
+}
+
+impl Column {
+    /// Those of one size.
+    fn of_size(&self, size: u32) -> &[Struct]
+        ensures { result.now ≡ of_size (lists_of self.now) size }
+    {
+        match self.sizes.get(size as usize) {
+            Some(list) => list,
+            None => &[],
+        }
+    }
+}
+
+/// The structures of a Prod with n atoms.
 #[cycle(listing)]
-fn list_products(
-    alloc: Global,
-    spec: &Spec,
-    depth: u32,
-    arguments: &[Expr],
-    n: u32,
-) -> Result<Vec<Structs>, AllocError>
-    requires { nodes_of_all (expressions_of arguments.now) ≤ 128 }
-    ensures { IfOk result (λ list. list.items ≡ list_components (names_to_depth (unlabelled spec.now) depth) (expressions_of arguments.now) (replicate n 0)) }
+fn list_prod(alloc: Global, grammar: &Grammar, node: u32, n: u32) -> Result<Vec<Struct>, AllocError>
+    requires grammar { IsUnlabelled grammar.now }
+    requires node { HasKind grammar.now node NodeKind.Prod }
+    requires size { n ≤ 1000 }
+    ensures { IfOk result (λ list. list.items ≡ listing_of_node grammar.now node n) }
 {
-    match arguments {
+    let least = grammar.least(node);
+    if n < least {
+        return Ok(Vec::new(alloc));
+    }
+    let columns = list_columns(alloc, grammar, node, n - least)?;
+    let products = list_products(alloc, &columns, n)?;
+    wrap_products(alloc, products)
+}
+
+/// For each component of a Prod its structures up to its least size and `spare` more atoms.
+#[cycle(listing)]
+fn list_columns(
+    alloc: Global,
+    grammar: &Grammar,
+    node: u32,
+    spare: u32,
+) -> Result<Vec<Column>, AllocError>
+    requires grammar { IsUnlabelled grammar.now }
+    requires node { HasKind grammar.now node NodeKind.Prod }
+    requires size { least_at grammar.now node + spare ≤ 1000 }
+    ensures { IfOk result (λ columns. map lists_of columns.items ≡ columns_of grammar.now node spare) }
+{
+    let mut columns = Vec::new(alloc);
+    for place in 0..grammar.children(node) {
+        let child = grammar.child(node, place + 1);
+        columns.push(list_column(alloc, grammar, child, grammar.least(child) + spare)?)?;
+    }
+    Ok(columns)
+}
+
+/// The structures of a node up to a size.
+#[cycle(listing)]
+fn list_column(alloc: Global, grammar: &Grammar, node: u32, most: u32) -> Result<Column, AllocError>
+    requires grammar { IsUnlabelled grammar.now }
+    requires node { node < length (all_nodes grammar.now.rules) }
+    requires size { most ≤ 1000 }
+    ensures { IfOk result (λ column. lists_of column ≡ column_to (listing_of_node grammar.now node) most) }
+{
+    let mut sizes = Vec::new(alloc);
+    for size in 0..=most {
+        sizes.push(list_node(alloc, grammar, node, size)?)?;
+    }
+    Ok(Column { sizes })
+}
+
+/// The lists of components, one of each column, with n atoms in all.
+#[cycle(products)]
+fn list_products(alloc: Global, columns: &[Column], n: u32) -> Result<Vec<Structs>, AllocError>
+    ensures { IfOk result (λ list. list.items ≡ products_of (map lists_of columns.now) n) }
+{
+    match columns {
         [] => list_nothing_more(alloc, n),
-        [first, others @ ..] => list_from_first(alloc, spec, depth, first, others, n),
+        [first, others @ ..] => list_from_first(alloc, first, others, n),
     }
 }
 
@@ -188,25 +259,38 @@ fn list_nothing_more(alloc: Global, n: u32) -> Result<Vec<Structs>, AllocError>
 
 /// The lists of a component of `first` and of components of the others: by the size of the first, then by the first,
 /// then by the others.
-#[cycle(listing)]
+#[cycle(products)]
 fn list_from_first(
     alloc: Global,
-    spec: &Spec,
-    depth: u32,
-    first: &Expr,
-    others: &[Expr],
+    first: &Column,
+    others: &[Column],
     n: u32,
 ) -> Result<Vec<Structs>, AllocError>
-    requires { nodes first.now + nodes_of_all (expressions_of others.now) ≤ 128 }
-    ensures { IfOk result (λ list. list.items ≡ by_sizes (list_of_size (names_to_depth (unlabelled spec.now) depth) first.now) (components_of_size (names_to_depth (unlabelled spec.now) depth) (expressions_of others.now)) n) }
+    ensures { IfOk result (λ list. list.items ≡ products_of (lists_of first.now ∷ map lists_of others.now) n) }
 {
     let mut products = Vec::new(alloc);
     for size in 0..=n {
-        let firsts = list_expr(alloc, spec, depth, first, size)?;
-        let rests = list_products(alloc, spec, depth, others, n - size)?;
-        push_products(alloc, &firsts, &rests, &mut products)?;
+        push_with_others(alloc, first.of_size(size), others, n - size, &mut products)?;
     }
     Ok(products)
+}
+
+/// Puts each of these first components, before each list of the others with n atoms, at the end.
+#[cycle(products)]
+fn push_with_others(
+    alloc: Global,
+    firsts: &[Struct],
+    others: &[Column],
+    n: u32,
+    products: &mut Vec<Structs>,
+) -> Result<(), AllocError>
+    ensures { OnOk result (products.new.items ≡ products.old.items ++ each_before firsts.now (products_of (map lists_of others.now) n)) }
+{
+    if firsts.is_empty() {
+        return Ok(());
+    }
+    let rests = list_products(alloc, others, n)?;
+    push_products(alloc, firsts, &rests, products)
 }
 
 /// Puts each first component, before each list of the others, at the end.

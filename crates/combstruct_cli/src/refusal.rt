@@ -1,21 +1,20 @@
 //! Refusals, and the lines that tell them.
 ghost use Rattle.std.specs.Prelude.{◌≡◌, ◌++◌, OnOk, ℕ, List, decimal};
-ghost use Rattle.combstruct_cli.specs.Refusals.{which_word, refusal_number, read_text, refusal_text, refusal_line};
+ghost use Rattle.combstruct_cli.specs.Refusals.{which_word, refusal_number, read_text, grammar_text, refusal_text, refusal_line};
 
 use itoa::Buffer;
 use spec_reader::{ReadRefused, Which};
 use spec_syntax::{Bytes, Name};
 use std::alloc::AllocError;
+use well_founded::Refused;
 
 /// Why a piece of a script is refused.
 #[derive(Drop)]
 pub(crate) enum Refusal {
     /// It is not read as a statement.
     Read(ReadRefused),
-    /// The name is used without a rule.
-    Undefined(Name),
-    /// The rule is used before it or in it.
-    Backward(Name),
+    /// Its class is refused by the check of grammars.
+    Grammar(Refused),
 }
 
 /// The word of a limit.
@@ -45,8 +44,12 @@ fn refusal_number(refusal: &Refusal) -> u32
         Refusal::Read(ReadRefused::Limit(_)) => 3,
         Refusal::Read(ReadRefused::NotText) => 4,
         Refusal::Read(ReadRefused::Memory) => 0,
-        Refusal::Undefined(_) => 20,
-        Refusal::Backward(_) => 5,
+        Refusal::Grammar(Refused::Undefined(_)) => 20,
+        Refusal::Grammar(Refused::CycleUnlabelled(_)) => 26,
+        Refusal::Grammar(Refused::Unproductive(_)) => 22,
+        Refusal::Grammar(Refused::NullElement(_)) => 23,
+        Refusal::Grammar(Refused::Endless(_, _)) => 24,
+        Refusal::Grammar(Refused::Memory) => 0,
     }
 }
 
@@ -94,16 +97,47 @@ fn push_read_reason(refused: &ReadRefused, text: &mut Bytes) -> Result<(), Alloc
     }
 }
 
+/// Appends which rule has endlessly many structures, and of which size.
+fn push_endless(name: &Name, size: u32, text: &mut Bytes) -> Result<(), AllocError>
+    ensures { OnOk result (text.new ≡ text.old ++ grammar_text (Refused.Endless name.now size)) }
+{
+    push_around(
+        b"rule ",
+        name,
+        b" has endlessly many structures of size ",
+        text,
+    )?;
+    push_number(size, text)
+}
+
+/// Appends why a grammar is refused.
+fn push_grammar_reason(refused: &Refused, text: &mut Bytes) -> Result<(), AllocError>
+    ensures { OnOk result (text.new ≡ text.old ++ grammar_text refused.now) }
+{
+    match refused {
+        Refused::Undefined(name) => push_around(b"no rule for ", name, b"", text),
+        Refused::CycleUnlabelled(name) => {
+            push_around(b"Cycle in an unlabelled grammar, rule ", name, b"", text)
+        }
+        Refused::Unproductive(name) => push_around(b"rule ", name, b" has no structure", text),
+        Refused::NullElement(name) => push_around(
+            b"rule ",
+            name,
+            b" has a container over a class with a structure of size 0",
+            text,
+        ),
+        Refused::Endless(name, size) => push_endless(name, *size, text),
+        Refused::Memory => Ok(()),
+    }
+}
+
 /// Appends what a refusal says.
 fn push_reason(refusal: &Refusal, text: &mut Bytes) -> Result<(), AllocError>
     ensures { OnOk result (text.new ≡ text.old ++ refusal_text refusal.now) }
 {
     match refusal {
         Refusal::Read(refused) => push_read_reason(refused, text),
-        Refusal::Undefined(name) => push_around(b"no rule for ", name, b"", text),
-        Refusal::Backward(name) => {
-            push_around(b"rule ", name, b" is used before or in its own rule", text)
-        }
+        Refusal::Grammar(refused) => push_grammar_reason(refused, text),
     }
 }
 

@@ -1,33 +1,33 @@
 //! A run: words and a script go in, and the answer goes out.
-ghost use Rattle.std.specs.Prelude.{Result, Ok, ◌≡◌, ◌⊎◌, ◌≢◌, ℕ, ◌+◌, ◌≤◌, ◌<◌, ◌++◌, [], List, Option, Some, length, take, slice_range, codes, replicate, IsTrue, IfOk, OnOk, OnErr};
-ghost use Rattle.std.specs.Io.KnownBytes.{Appends, IsAtEnd};
+ghost use Rattle.std.specs.Prelude.{Result, Ok, None, ◌≡◌, ◌⊎◌, ◌≢◌, ℕ, ◌+◌, ◌≤◌, ◌<◌, ◌++◌, [], List, Option, Some, length, take, slice_range, codes, replicate, IsTrue, IfOk, OnOk, OnErr};
+ghost use Rattle.std.specs.Io.KnownBytes.{Appends};
 ghost use Rattle.comb_io.specs.Parts.{AppendsProperPrefix};
 ghost use Rattle.comb_io.specs.Faults.{Rose};
 ghost use Rattle.spec_syntax.specs.declared.statement.Statement.{Statement};
 ghost use Rattle.spec_reader.specs.declared.refusal.ReadRefused.{ReadRefused};
-ghost use Rattle.spec_syntax.specs.Expression.{Name as NameClass};
 ghost use Rattle.spec_reader.specs.Cutting.{begins_piece, first_piece_of};
 ghost use Rattle.spec_reader.specs.Places.{place_behind};
 ghost use Rattle.spec_reader.specs.Reading.{Answers};
+ghost use Rattle.spec_reader.specs.Laws.{FormKeeps, FormIsSmall};
 ghost use Rattle.struct_model.specs.Structure.{parts_of};
 ghost use Rattle.struct_model.specs.Text.{maple_parts};
-ghost use Rattle.listing_laws.specs.Later.{are_plain};
-ghost use Rattle.listing_laws.specs.Lister.{lists_to_depth};
-ghost use Rattle.combstruct_cli.specs.Unlabelled.{unlabelled};
-ghost use Rattle.combstruct_cli.specs.Answer.{Effect, Answer, refusing, refusing_long, refusal_of, effect_of_listing, effect, effect_of_piece, effect_after, refusing_second, RunsPiece, RunsFirst, IsAnswer, is_plain_form};
+ghost use Rattle.well_founded.specs.Names.{are_plain};
+ghost use Rattle.spec_syntax.specs.Rules.{is_spec, symbol as symbol_of};
+ghost use Rattle.combstruct_cli.specs.NodeListing.{listing_of_rule};
+ghost use Rattle.combstruct_cli.specs.Answer.{Effect, Answer, writing, refusing, refusing_long, listing_text, ListingDoes, StatementDoes, PieceDoes, effect_after, refusing_second, RunsPiece, RunsFirst, IsAnswer, is_plain_form, most_bytes, usage_answer};
 ghost use Rattle.combstruct_cli.specs.Outcome.{HasErrCause, HasRunCause, Makes, Ends, Gives, DidNotRise, either};
-ghost use Rattle.combstruct_cli.specs.Input.{TookOver};
+ghost use Rattle.combstruct_cli.specs.Input.{IsSpent, TookOver, TookWithin};
 ghost use Rattle.combstruct_cli.specs.Laws.{SomeAnswer, OneAnswer};
 
 use crate::input::{InputFault, MOST_BYTES, read_script};
-use crate::list::list_name;
-use crate::names::{backward_name, undefined_name};
+use crate::list::list_rule;
 use crate::refusal::{Refusal, push_refusal};
 use crate::text::push_parts;
 use comb_io::{Shelf, Sink, SinkFault, Source, write_all};
 use spec_reader::{Place, ReadRefused, Which, behind, first_piece, read_statement};
-use spec_syntax::{Bytes, ClassRef, Form, Job, Name, RulesRef, Spec, Statement};
+use spec_syntax::{Bytes, ClassRef, Form, Job, Name, RulesRef, Spec, Statement, Universe};
 use std::alloc::{AllocError, Global};
+use well_founded::{Grammar, Refused, check};
 
 /// How a run ended. Its code is the exit status of the program.
 #[derive(Clone, Copy, PartialEq, Eq, Debug)]
@@ -104,11 +104,16 @@ const USAGE: &str =
 /// Where a script begins.
 const START: Place = Place { line: 1, column: 1 };
 
-/// The line that answers an `allstructs` statement: the texts of the structures in brackets.
-fn listing_line(alloc: Global, symbol: &Name, spec: &Spec, size: u32) -> Result<Bytes, AllocError>
-    ensures { IfOk result (λ text. text ≡ codes "[" ++ maple_parts spec.now (parts_of (lists_to_depth (unlabelled spec.now) (length spec.now) (NameClass symbol.now) (replicate size 0))) ++ codes "]\n") }
+/// The line that answers an `allstructs` statement: the texts of the structures of rule number `sym` in brackets.
+fn listing_line(alloc: Global, grammar: &Grammar, sym: u32, size: u32) -> Result<Bytes, AllocError>
+    requires unlabelled { grammar.now.universe ≡ Universe.Unlabelled }
+    requires low { 1 ≤ sym }
+    requires high { sym ≤ length grammar.now.rules }
+    requires size { size ≤ 1000 }
+    ensures { IfOk result (λ text. text ≡ codes "[" ++ maple_parts grammar.now.rules (parts_of (listing_of_rule grammar.now sym size)) ++ codes "]\n") }
 {
-    let list = list_name(alloc, spec, spec.rules(), symbol, size)?;
+    let spec = grammar.spec();
+    let list = list_rule(alloc, grammar, sym, size)?;
     let mut text = Bytes::new(alloc);
     text.extend_from_slice(b"[")?;
     push_parts(spec, &list, &mut text)?;
@@ -158,19 +163,47 @@ fn refuse<E: Sink>(
     }
 }
 
-/// Why a listing of the class is refused, if it is.
-fn refusal_of(alloc: Global, symbol: &Name, spec: &Spec) -> Result<Option<Refusal>, AllocError>
-    ensures { IfOk result (λ refusal. refusal ≡ refusal_of spec.now symbol.now) }
+/// Refuses a class that does not pass the check, unless memory is wanting.
+fn refuse_grammar<E: Sink>(
+    alloc: Global,
+    line: u32,
+    refused: Refused,
+    err: &mut E,
+) -> Result<Outcome, RunFault>
+    ensures cause { HasErrCause (E.faults err.old) (E.faults err.new) result }
+    ensures memory { refused ≡ Refused.Memory → (whole : Effect) (out : Option (List ℕ))
+        → Makes out out (E.written err.old) (E.written err.new) whole result }
+    ensures makes { refused ≢ Refused.Memory → (out : Option (List ℕ))
+        → Makes out out (E.written err.old) (E.written err.new) (refusing line (Refusal.Grammar refused)) result }
 {
-    if let Some(name) = undefined_name(spec, symbol) {
-        let name = Name::from_slice(alloc, name.as_slice())?;
-        return Ok(Some(Refusal::Undefined(name)));
+    if let Refused::Memory = refused {
+        return Err(RunFault::Memory);
     }
-    if let Some(name) = backward_name(spec) {
-        let name = Name::from_slice(alloc, name.as_slice())?;
-        return Ok(Some(Refusal::Backward(name)));
+    let refusal = Refusal::Grammar(refused);
+    refuse(alloc, line, &refusal, err)
+}
+
+/// Writes the line of the listing of a checked class at a size.
+fn write_listing<O: Sink>(
+    alloc: Global,
+    grammar: &Grammar,
+    size: u32,
+    out: &mut O,
+) -> Result<Outcome, RunFault>
+    requires unlabelled { grammar.now.universe ≡ Universe.Unlabelled }
+    requires size { size ≤ 1000 }
+    ensures cause { HasErrCause (O.faults out.old) (O.faults out.new) result }
+    ensures makes { (symbol : List ℕ) (err : Option (List ℕ)) → grammar.now.start ≡ symbol_of grammar.now.rules symbol → grammar.now.start ≢ None
+        → Makes (O.written out.old) (O.written out.new) err err (writing (listing_text grammar.now.rules symbol size)) result }
+{
+    let Some(sym) = grammar.start() else {
+        return Ok(Outcome::Done);
+    };
+    let text = listing_line(alloc, grammar, sym, size)?;
+    match write_text(out, text.as_slice()) {
+        Ok(()) => Ok(Outcome::Done),
+        Err(fault) => Err(fault),
     }
-    Ok(None)
 }
 
 /// Runs an `allstructs` statement of a class at a size.
@@ -183,17 +216,16 @@ fn run_listing<O: Sink, E: Sink>(
     out: &mut O,
     err: &mut E,
 ) -> Result<Outcome, RunFault>
+    requires spec { IsTrue (is_spec spec.now) }
     requires plain { IsTrue (are_plain spec.now) }
+    requires size { size ≤ 1000 }
     ensures cause { HasRunCause (O.faults out.old) (O.faults out.new) (E.faults err.old) (E.faults err.new) result }
-    ensures makes { Makes (O.written out.old) (O.written out.new) (E.written err.old) (E.written err.new) (effect_of_listing spec.now symbol.now size line) result }
+    ensures makes { (whole : Effect) → ListingDoes spec.now symbol.now size line whole
+        → Makes (O.written out.old) (O.written out.new) (E.written err.old) (E.written err.new) whole result }
 {
-    if let Some(refusal) = refusal_of(alloc, symbol, spec)? {
-        return refuse(alloc, line, &refusal, err);
-    }
-    let text = listing_line(alloc, symbol, spec, size)?;
-    match write_text(out, text.as_slice()) {
-        Ok(()) => Ok(Outcome::Done),
-        Err(fault) => Err(fault),
+    match check(alloc, spec, Some(symbol), Universe::Unlabelled) {
+        Ok(grammar) => write_listing(alloc, &grammar, size, out),
+        Err(refused) => refuse_grammar(alloc, line, refused, err),
     }
 }
 
@@ -206,8 +238,11 @@ fn run_statement<O: Sink, E: Sink>(
     err: &mut E,
 ) -> Result<Outcome, RunFault>
     requires plain { IsTrue (is_plain_form statement.now.form) }
+    requires small { FormIsSmall statement.now.form }
+    requires keeps { FormKeeps statement.now.form }
     ensures cause { HasRunCause (O.faults out.old) (O.faults out.new) (E.faults err.old) (E.faults err.new) result }
-    ensures makes { Makes (O.written out.old) (O.written out.new) (E.written err.old) (E.written err.new) (effect statement.now.form line) result }
+    ensures makes { (whole : Effect) → StatementDoes statement.now.form line whole
+        → Makes (O.written out.old) (O.written out.new) (E.written err.old) (E.written err.new) whole result }
 {
     match &statement.form {
         Form::List(Job::Grammar(ClassRef::Written(symbol, RulesRef::Written(spec), _), size)) => {
@@ -232,8 +267,8 @@ fn run_piece<O: Sink, E: Sink>(
     requires column_low { 1 ≤ place.column }
     requires column_high { place.column ≤ 16777217 }
     ensures cause { HasRunCause (O.faults out.old) (O.faults out.new) (E.faults err.old) (E.faults err.new) result }
-    ensures makes { (reading : Result Statement ReadRefused) → Answers place piece.now reading
-        → Makes (O.written out.old) (O.written out.new) (E.written err.old) (E.written err.new) (effect_of_piece reading place.line) result }
+    ensures makes { (reading : Result Statement ReadRefused) (whole : Effect) → Answers place piece.now reading → PieceDoes reading place.line whole
+        → Makes (O.written out.old) (O.written out.new) (E.written err.old) (E.written err.new) whole result }
 {
     match read_statement(alloc, piece, place.line, place.column) {
         Ok(statement) => run_statement(alloc, &statement, place.line, out, err),
@@ -372,6 +407,22 @@ pub fn each_script_has_one_answer(_words: &Vec<String>)
     ensures one { OneAnswer _words.now.items }
 {}
 
+/// Writes the usage line, which answers words that aren't in form.
+pub(crate) fn refuse_words<E: Sink>(err: &mut E) -> Status
+    ensures answer { (out : Option (List ℕ)) → Ends out out (E.written err.old) (E.written err.new) usage_answer result }
+    ensures complete { DidNotRise (E.faults err.old) (E.faults err.new) → (out : Option (List ℕ))
+        → Gives out out (E.written err.old) (E.written err.new) usage_answer result ⊎ (result ≡ Status.Memory) }
+    ensures status { (result ≡ Status.Words) ⊎ (result ≡ Status.Output) ⊎ (result ≡ Status.Memory) }
+    ensures output { result ≡ Status.Output → Rose (E.faults err.old) (E.faults err.new) }
+    ensures later { E.faults err.old ≤ E.faults err.new }
+{
+    match write_all(err, USAGE.as_bytes()) {
+        Ok(()) => Status::Words,
+        Err(SinkFault::Failed) => Status::Output,
+        Err(SinkFault::Memory) => Status::Memory,
+    }
+}
+
 /// Runs the script that `input` gives, and writes its answer to `out` and `err`.
 ///
 /// No word is in form yet, so any word gives the usage line. No file is fetched from the shelf yet.
@@ -388,10 +439,18 @@ pub fn run<S: Source, F: Shelf, O: Sink, E: Sink>(
     ensures complete { DidNotRise (S.faults input.old) (S.faults input.new) → DidNotRise (O.faults out.old) (O.faults out.new) → DidNotRise (E.faults err.old) (E.faults err.new)
         → (given : List ℕ) → S.left input.old ≡ Some given → (answer : Answer) → IsAnswer words.now.items given answer
         → Gives (O.written out.old) (O.written out.new) (E.written err.old) (E.written err.new) answer result ⊎ (result ≡ Status.Memory) }
-    ensures untouched { result ≡ Status.Input → (O.written out.new ≡ O.written out.old) × (E.written err.new ≡ E.written err.old) }
-    ensures unread { words.now.items ≢ [] → S.left input.new ≡ S.left input.old }
-    ensures at_end { result ≡ Status.Well → IsAtEnd (S.left input.new) }
-    ensures at_end_or_over { result ≡ Status.SomeRefused → IsAtEnd (S.left input.new) ⊎ TookOver 16777216 (S.left input.old) (S.left input.new) }
+    ensures words_answer { words.now.items ≢ []
+        → Ends (O.written out.old) (O.written out.new) (E.written err.old) (E.written err.new) usage_answer result }
+    ensures words_complete { words.now.items ≢ [] → DidNotRise (E.faults err.old) (E.faults err.new)
+        → Gives (O.written out.old) (O.written out.new) (E.written err.old) (E.written err.new) usage_answer result ⊎ (result ≡ Status.Memory) }
+    ensures untouched { result ≡ Status.Input → (out.new ≡ out.old) × (err.new ≡ err.old) }
+    ensures unread { words.now.items ≢ [] → input.new ≡ input.old }
+    ensures unwritten { words.now.items ≢ [] → out.new ≡ out.old }
+    ensures shelf { _shelf.new ≡ _shelf.old }
+    ensures front { TookWithin (most_bytes + 1) (S.left input.old) (S.left input.new) }
+    ensures at_end { result ≡ Status.Well → IsSpent (S.left input.old) (S.left input.new) }
+    ensures at_end_or_over { result ≡ Status.SomeRefused
+        → IsSpent (S.left input.old) (S.left input.new) ⊎ TookOver most_bytes (S.left input.old) (S.left input.new) }
     ensures words { result ≡ Status.Words → words.now.items ≢ [] }
     ensures no_words { words.now.items ≢ [] → (result ≡ Status.Words) ⊎ (result ≡ Status.Output) ⊎ (result ≡ Status.Memory) }
     ensures input { result ≡ Status.Input → Rose (S.faults input.old) (S.faults input.new) }
@@ -399,11 +458,7 @@ pub fn run<S: Source, F: Shelf, O: Sink, E: Sink>(
     ensures later { (S.faults input.old ≤ S.faults input.new) × (O.faults out.old ≤ O.faults out.new) × (E.faults err.old ≤ E.faults err.new) }
 {
     if !words.is_empty() {
-        return match write_all(err, USAGE.as_bytes()) {
-            Ok(()) => Status::Words,
-            Err(SinkFault::Failed) => Status::Output,
-            Err(SinkFault::Memory) => Status::Memory,
-        };
+        return refuse_words(err);
     }
     let script = match read_script(alloc, input) {
         Ok(script) => script,
@@ -516,6 +571,18 @@ mod tests {
                 "[]\n",
             ),
             (
+                "allstructs([B, {B = Union(Z, Prod(B, B))}, unlabelled], size = 3);",
+                "[Prod(Z, Prod(Z, Z)), Prod(Prod(Z, Z), Z)]\n",
+            ),
+            (
+                "allstructs([B, {B = Union(Z, Prod(B, B))}, unlabelled], size = 0);",
+                "[]\n",
+            ),
+            (
+                "allstructs([T, {T = Union(Z, Prod(E, Z, T)), E = Epsilon}, unlabelled], size = 2);",
+                "[Prod(E, Z, Z)]\n",
+            ),
+            (
                 "# all of them\n\t allstructs ( [S,{S=Union(Z,# twice\r\nAtom)},unlabelled] ,size=01 ) ; # done",
                 "[Z, Z]\n",
             ),
@@ -531,9 +598,24 @@ mod tests {
         let alloc = rt.alloc();
         let cases = [
             (
-                "allstructs([B, {B = Union(Z, Prod(B, B))}, unlabelled], size = 3);",
+                "allstructs([T, {T = Prod(Z, T)}, unlabelled], size = 1);",
                 "",
-                "line 1: error 5: rule B is used before or in its own rule\n",
+                "line 1: error 22: rule T has no structure\n",
+            ),
+            (
+                "allstructs([T, {T = Union(Prod(Z, Z), Prod(E, T)), E = Epsilon}, unlabelled], size = 1);",
+                "",
+                "line 1: error 24: rule T has endlessly many structures of size 2\n",
+            ),
+            (
+                "allstructs([S, {S = Prod(Z, A), A = Union(Z, A)}, unlabelled], size = 1);",
+                "",
+                "line 1: error 24: rule A has endlessly many structures of size 1\n",
+            ),
+            (
+                "allstructs([T, {T = Union(Z, T)}, unlabelled], size = 1);",
+                "",
+                "line 1: error 24: rule T has endlessly many structures of size 1\n",
             ),
             (
                 "\nallstructs([S, {S = Union(Z, T)}, unlabelled], size = 1);",

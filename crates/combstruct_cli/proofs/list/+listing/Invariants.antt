@@ -1,37 +1,38 @@
-use Rattle.std.proofs.Common.{◌≡◌, ◌+◌, ◌*◌, ◌++◌, ◌-◌, drop, replicate}
-use Rattle.std.specs.List.{flat_map, range_with_len}
-use Rattle.spec_syntax.specs.Expression.{nodes, nodes_of_all, expressions_of}
-use Rattle.listing_laws.specs.Lister.{alternatives, each_before, list_each, names_to_depth}
-use Rattle.listing_laws.specs.BySize.{list_of_size, components_of_size}
-use Rattle.combstruct_cli.specs.Unlabelled.{unlabelled}
+use Rattle.std.proofs.Common.{◌≡◌, ◌+◌, ◌*◌, length, map, take}
+use Rattle.std.specs.List.{range_with_len}
+use Rattle.spec_syntax.specs.Rules.{all_nodes}
+use Rattle.well_founded.specs.NodeKinds.{children_at}
+use Rattle.listing_laws.specs.Lister.{alternatives}
+use Rattle.combstruct_cli.specs.ColumnView.{lists_of}
+use Rattle.combstruct_cli.specs.NodeListing.{listing_of_node, least_at, column_of, rank_at, rule_rank}
 use Rattle.combstruct_cli.proofs.list.+listing.Given as goal
 
-abbrev pub decreases-list_expr : goal.decreases-list_expr
-decreases-list_expr l = 400 * l.depth + 3 * nodes l.expr.now
+abbrev pub decreases-list_rule : goal.decreases-list_rule
+decreases-list_rule l = 4 * (l.n * length (all_nodes l.grammar.now.rules) + rule_rank l.grammar.now l.sym)
 
-abbrev pub decreases-list_name : goal.decreases-list_name
-decreases-list_name l = 400 * l.depth + 1
-
-abbrev pub decreases-list_products : goal.decreases-list_products
-decreases-list_products l = 400 * l.depth + 3 * nodes_of_all (expressions_of l.arguments.now) + 2
-
-abbrev pub decreases-list_from_first : goal.decreases-list_from_first
-decreases-list_from_first l = 400 * l.depth + 3 * (nodes l.first.now + nodes_of_all (expressions_of l.others.now)) + 1
+abbrev pub decreases-list_node : goal.decreases-list_node
+decreases-list_node l = 4 * (l.n * length (all_nodes l.grammar.now.rules) + rank_at l.grammar.now l.node) + 3
 
 abbrev pub decreases-list_union : goal.decreases-list_union
-decreases-list_union l = 400 * l.depth + 3 * nodes_of_all (expressions_of l.arguments.now) + 1
+decreases-list_union l = 4 * (l.n * length (all_nodes l.grammar.now.rules) + rank_at l.grammar.now l.node) + 2
 
-abbrev pub invariant-list_from_first-loop-size : goal.invariant-list_from_first-loop-size
-invariant-list_from_first-loop-size l =
-    l.products.items
-    ≡ flat_map
-    (λ size. each_before
-    (list_of_size (names_to_depth (unlabelled l.spec) l.depth) l.first size)
-    (components_of_size (names_to_depth (unlabelled l.spec) l.depth) (expressions_of l.others) (l.n - size)))
-    (range_with_len 0 l.size)
+abbrev pub decreases-list_prod : goal.decreases-list_prod
+decreases-list_prod l = 4 * (l.n * length (all_nodes l.grammar.now.rules) + rank_at l.grammar.now l.node) + 2
 
-abbrev pub invariant-list_union-loop-argument : goal.invariant-list_union-loop-argument
-invariant-list_union-loop-argument l =
-    (alternatives 1 (list_each (names_to_depth (unlabelled l.spec) l.depth) (expressions_of l.arguments) (replicate l.n 0))
-    ≡ l.list.items ++ alternatives (l.number + 1) (list_each (names_to_depth (unlabelled l.spec) l.depth) (expressions_of (drop l.argument-index l.arguments)) (replicate l.n 0)))
-    × (l.number ≡ l.argument-index)
+abbrev pub decreases-list_columns : goal.decreases-list_columns
+decreases-list_columns l =
+    4 * ((least_at l.grammar.now l.node + l.spare) * length (all_nodes l.grammar.now.rules) + rank_at l.grammar.now l.node) + 1
+
+abbrev pub decreases-list_column : goal.decreases-list_column
+decreases-list_column l = 4 * (l.most * length (all_nodes l.grammar.now.rules) + rank_at l.grammar.now l.node) + 4
+
+abbrev pub invariant-list_union-loop-place : goal.invariant-list_union-loop-place
+invariant-list_union-loop-place l =
+    l.list.items ≡ alternatives 1 (map (λ child. listing_of_node l.grammar child l.n) (take l.place (children_at l.grammar.rules l.node)))
+
+abbrev pub invariant-list_columns-loop-place : goal.invariant-list_columns-loop-place
+invariant-list_columns-loop-place l =
+    map lists_of l.columns.items ≡ map (column_of l.grammar l.spare) (take l.place (children_at l.grammar.rules l.node))
+
+abbrev pub invariant-list_column-loop-size : goal.invariant-list_column-loop-size
+invariant-list_column-loop-size l = map (λ list. list.items) l.sizes.items ≡ map (listing_of_node l.grammar l.node) (range_with_len 0 l.size)

@@ -1,34 +1,48 @@
-use Rattle.std.proofs.Common.{◌≡◌, List, ℕ, Option, Some, None, sym, ap, ◌∙◌}
-use Rattle.combstruct_cli.specs.declared.refusal.Refusal.{Refusal}
-use Rattle.combstruct_cli.specs.Answer.{Effect, writing, refusing, refusing_or, refusal_of, listing_text, effect_of_listing}
-use Rattle.combstruct_cli.proofs.RunLemmas.{Makes-same, Makes-wrote, Makes-wrote-part}
-use Rattle.combstruct_cli.proofs.AnswerLemmas.{listing_text-listed, effect_of_listing-listed}
+use Rattle.std.proofs.Common.{◌≡◌, ◌≢◌, ⊎_elim, List, ℕ, Option, Some, None, sym, ap, ◌∙◌}
+use Rattle.spec_syntax.specs.Rules.{Rules, symbol as symbol_of}
+use Rattle.well_founded.specs.declared.refused.Refused.{Refused}
+use Rattle.well_founded.specs.WellFounded.{Checks}
+use Rattle.well_founded.proofs.CheckExists.{says_one}
+use Rattle.combstruct_cli.specs.declared.refusal.Refusal.TheVariants.{Grammar}
+use Rattle.combstruct_cli.specs.Unlabelled.{unlabelled}
+use Rattle.combstruct_cli.specs.Answer.{writing, refusing, listing_text, effect_of_listing}
+use Rattle.combstruct_cli.proofs.RunLemmas.{Makes-same}
+use Rattle.combstruct_cli.proofs.AnswerLemmas.{symbol_defined, is_memory_refused}
 use Rattle.combstruct_cli.proofs.run.run_listing.Goals as goal
-
-pub returns-in-Some-clause-makes : goal.returns-in-Some-clause-makes
-returns-in-Some-clause-makes g c =
-    let listed : Effect = writing (listing_text c.args.spec.now c.args.symbol.now c.args.size) in
-    let refused : Some c.in-Some.refusal ≡ refusal_of c.args.spec.now c.args.symbol.now = sym c.in-Some.is ∙ c.in_ok-refusal.ensures in
-    Makes-same (g.O.Sink.written c.args.out.now) (g.O.Sink.written c.args.out.now) (g.E.Sink.written c.args.err.now) (g.E.Sink.written c.refuse.new.err)
-    (refusing c.args.line c.in-Some.refusal) (effect_of_listing c.args.spec.now c.args.symbol.now c.args.size c.args.line) c.refuse.result
-    (ap (λ (r : Option Refusal). refusing_or c.args.line r listed) refused) (c.refuse.ensures.makes (g.O.Sink.written c.args.out.now))
 
 pub returns-in-Ok-clause-makes : goal.returns-in-Ok-clause-makes
 returns-in-Ok-clause-makes g c =
-    let rules = c.args.spec.now in
+    λ whole does.
+    let out = g.O.Sink.written c.args.out.now in
+    let out' = g.O.Sink.written c.write_listing.new.out in
+    let err = g.E.Sink.written c.args.err.now in
+    let rules : Rules = c.args.spec.now in
     let symbol : List ℕ = c.args.symbol.now in
-    let none : refusal_of rules symbol ≡ None = sym c.in_ok-refusal.ensures ∙ c.in_default.is in
-    Makes-wrote (g.O.Sink.written c.args.out.now) (g.O.Sink.written c.write_text.new.sink) (g.E.Sink.written c.args.err.now) (g.E.Sink.written c.args.err.now)
-    c.as_slice.result.now (listing_text rules symbol c.args.size) (effect_of_listing rules symbol c.args.size c.args.line) c.in-Ok.ensures.whole
-    (c.as_slice.ensures ∙ c.in_ok-text.ensures ∙ listing_text-listed rules symbol none c.args.size c.requires.plain)
-    (effect_of_listing-listed rules symbol none c.args.size c.args.line)
+    let passes : Checks (unlabelled rules) (Some symbol) None = c.in-Ok.ensures.passes in
+    let said : None ≡ does.said = says_one (unlabelled rules) (Some symbol) None does.said c.requires.spec passes does.checks in
+    let starts : c.in-Ok.grammar.start ≡ symbol_of c.in-Ok.grammar.rules symbol =
+    c.in-Ok.ensures.start ∙ ap (λ (own : Rules). symbol_of own symbol) (sym c.in-Ok.ensures.rules) in
+    let some : c.in-Ok.grammar.start ≢ None = λ none. symbol_defined rules symbol passes.1 (sym c.in-Ok.ensures.start ∙ none) in
+    Makes-same out out' err err (writing (listing_text c.in-Ok.grammar.rules symbol c.args.size)) whole c.write_listing.result
+    (ap (λ (own : Rules). writing (listing_text own symbol c.args.size)) c.in-Ok.ensures.rules
+    ∙ ap (λ (found : Option Refused). effect_of_listing found rules symbol c.args.size c.args.line) said
+    ∙ sym does.does)
+    (c.write_listing.ensures.makes symbol err starts some)
 
-pub returns-clause-makes : goal.returns-clause-makes
-returns-clause-makes g c =
-    let rules = c.args.spec.now in
+pub returns-in-Err-clause-makes : goal.returns-in-Err-clause-makes
+returns-in-Err-clause-makes g c =
+    λ whole does.
+    let out = g.O.Sink.written c.args.out.now in
+    let err = g.E.Sink.written c.args.err.now in
+    let err' = g.E.Sink.written c.refuse_grammar.new.err in
+    let rules : Rules = c.args.spec.now in
     let symbol : List ℕ = c.args.symbol.now in
-    let none : refusal_of rules symbol ≡ None = sym c.in_ok-refusal.ensures ∙ c.in_default.is in
-    Makes-wrote-part (g.O.Sink.written c.args.out.now) (g.O.Sink.written c.write_text.new.sink) (g.E.Sink.written c.args.err.now) (g.E.Sink.written c.args.err.now)
-    c.as_slice.result.now (listing_text rules symbol c.args.size) (effect_of_listing rules symbol c.args.size c.args.line) c.in-Err.fault c.in-Err.ensures.part
-    (c.as_slice.ensures ∙ c.in_ok-text.ensures ∙ listing_text-listed rules symbol none c.args.size c.requires.plain)
-    (effect_of_listing-listed rules symbol none c.args.size c.args.line)
+    ⊎_elim
+    (λ memory. c.refuse_grammar.ensures.memory memory whole out)
+    (λ other.
+    let said : Some c.in-Err.refused ≡ does.said =
+    says_one (unlabelled rules) (Some symbol) (Some c.in-Err.refused) does.said c.requires.spec (c.in-Err.ensures.refused other) does.checks in
+    Makes-same out out err err' (refusing c.args.line (Grammar c.in-Err.refused)) whole c.refuse_grammar.result
+    (ap (λ (found : Option Refused). effect_of_listing found rules symbol c.args.size c.args.line) said ∙ sym does.does)
+    (c.refuse_grammar.ensures.makes other out))
+    (is_memory_refused c.in-Err.refused)
