@@ -1,1 +1,0 @@
-allstructs([B, {B = Union(Z, Prod(B, B))}, unlabelled], size = 3);
