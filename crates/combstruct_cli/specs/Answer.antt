@@ -65,7 +65,8 @@ pub record ListingDoes (rules : Rules) (symbol : List ℕ) (size line : ℕ) (wh
   pub checks : Checks (unlabelled rules) (Some symbol) said
   pub does : whole ≡ effect_of_listing said rules symbol size line
 
--- a statement that begins in this line does this. No other statement is read yet
+-- a statement that begins in this line does this. Only classes without labels are read yet, and of the other statements only
+-- the empty one, which does nothing
 abbrev pub StatementDoes : Form → ℕ → Effect → Type 0
 StatementDoes (form.List (job.Grammar (class_ref.Written symbol (rules_ref.Written rules) universe) size)) line whole = ListingDoes rules symbol size line whole
 StatementDoes other line whole = whole ≡ nothing

@@ -1,9 +1,10 @@
 //! The program `combstruct`: it reads a script and writes what its statements ask for.
 #![tactic(auto)]
 
-ghost use Rattle.std.specs.Prelude.{◌≡◌, ◌≢◌, ◌⊎◌, ℕ, List, Option, IfOk, drop};
+ghost use Rattle.std.specs.Prelude.{◌≡◌, ◌≢◌, ◌⊎◌, ◌≤◌, ℕ, List, Option, IfOk, drop};
 ghost use Rattle.std.specs.IoError.{error_kind};
 ghost use Rattle.std.specs.Vec.Iter.{into_iter_items};
+ghost use Rattle.comb_io.specs.Faults.{Rose};
 ghost use Rattle.combstruct_cli.specs.Answer.{usage_answer};
 ghost use Rattle.combstruct_cli.specs.Outcome.{DidNotRise, Ends, Gives};
 
@@ -49,6 +50,9 @@ fn refuse_arguments<E: Sink>(error: &io::Error, err: &mut E) -> Status
         → Ends out out (E.written err.old) (E.written err.new) usage_answer result }
     ensures complete { error_kind error.now ≡ ErrorKind.InvalidData → DidNotRise (E.faults err.old) (E.faults err.new) → (out : Option (List ℕ))
         → Gives out out (E.written err.old) (E.written err.new) usage_answer result ⊎ (result ≡ Status.Memory) }
+    ensures status { error_kind error.now ≡ ErrorKind.InvalidData → (result ≡ Status.Words) ⊎ (result ≡ Status.Output) ⊎ (result ≡ Status.Memory) }
+    ensures output { result ≡ Status.Output → Rose (E.faults err.old) (E.faults err.new) }
+    ensures later { E.faults err.old ≤ E.faults err.new }
     ensures memory { error_kind error.now ≢ ErrorKind.InvalidData → (result ≡ Status.Memory) × (err.new ≡ err.old) }
 {
     match error.kind() {
