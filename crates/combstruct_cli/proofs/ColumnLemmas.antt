@@ -1,6 +1,8 @@
 -- Columns that go far enough have all products of a size.
-use Rattle.std.proofs.Common.{◌≡◌, ◌⊎◌, inl, inr, ℕ, zero, suc, ◌+◌, ◌-◌, ◌<◌, ◌≤◌, List, [], ◌∷◌, ◌++◌, map, flat_map, replicate, slice_get, unwrap_or, Option, Some, None, refl, sym, ap, ◌∙◌, arith}
+use Rattle.std.proofs.Common.{◌≡◌, ◌⊎◌, inl, inr, ℕ, zero, suc, ◌+◌, ◌-◌, ◌<◌, ◌≤◌, List, [], ◌∷◌, ◌++◌, map, flat_map, length, get_or, replicate, slice_get, unwrap_or, Option, Some, None, refl, sym, ap, ◌∙◌, arith}
 use Rattle.std.specs.List.{range_with_len}
+use Rattle.std.proofs.lemmas.List.FromFn.{length-map-range_with_len}
+use Rattle.std.proofs.lemmas.List.{length-map}
 use Rattle.struct_model.specs.Structure.{Structure}
 use Rattle.listing_laws.specs.Lister.{list_no_components, each_before}
 use Rattle.listing_laws.specs.BySize.{by_sizes}
@@ -42,7 +44,7 @@ out_of_range f start zero k h = refl
 out_of_range f start (suc len) zero h = absurd (omega arith)
 out_of_range f start (suc len) (suc k) h = out_of_range f (start + 1) len k (omega arith)
 
-within_column : (f : ℕ → List Structure) (most k : ℕ) → k ≤ most → of_size (column_to f most) k ≡ f k
+pub within_column : (f : ℕ → List Structure) (most k : ℕ) → k ≤ most → of_size (column_to f most) k ≡ f k
 within_column f most k h = ap (λ (o : Option (List Structure)). unwrap_or o []) (in_range f 0 (most + 1) k (omega (arith, h)) ∙ ap (λ (m : ℕ). Some (f m)) (from_zero k))
   where
     from_zero : (m : ℕ) → 0 + m ≡ m
@@ -50,6 +52,50 @@ within_column f most k h = ap (λ (o : Option (List Structure)). unwrap_or o [])
 
 over_column : (f : ℕ → List Structure) (most k : ℕ) → most < k → of_size (column_to f most) k ≡ []
 over_column f most k h = ap (λ (o : Option (List Structure)). unwrap_or o []) (out_of_range f 0 (most + 1) k (omega (arith, h)))
+
+-- what agrees at each size makes the same column
+pub column_same : (p q : ℕ → List Structure) (most : ℕ) → ((k : ℕ) → p k ≡ q k) → column_to p most ≡ column_to q most
+column_same p q most same = λ i. column_to (λ size. same size i) most
+
+-- what agrees up to a size makes the same column
+pub column_agree : (p q : ℕ → List Structure) (most : ℕ) → ((k : ℕ) → k ≤ most → p k ≡ q k) → column_to p most ≡ column_to q most
+column_agree p q most same = by 0 (most + 1) (λ k high. same k (omega (arith, high)))
+  where
+    by : (start len : ℕ) → ((k : ℕ) → k < start + len → p k ≡ q k) → map p (range_with_len start len) ≡ map q (range_with_len start len)
+    by start zero agree = refl
+    by start (suc len) agree = λ i. agree start (omega arith) i ∷ by (start + 1) len (λ k high. agree k (omega (arith, high))) i
+
+pub map_twice : {X Y Z : Type 0} (f : Y → Z) (g : X → Y) (xs : List X) → map f (map g xs) ≡ map (λ x. f (g x)) xs
+map_twice f g [] = refl
+map_twice f g (x ∷ xs) = ap (λ ys. f (g x) ∷ ys) (map_twice f g xs)
+
+-- what is made of each size of a column
+pub mapped_column : (f : List Structure → List Structure) (lists : ℕ → List Structure) (most : ℕ) → map f (column_to lists most) ≡ column_to (λ size. f (lists size)) most
+mapped_column f lists most = map_twice f lists (range_with_len 0 (most + 1))
+
+-- those of one size of some columns
+pub columns_at : (f : ℕ → ℕ → List Structure) (most size : ℕ) → size ≤ most → (ms : List ℕ)
+    → map (λ column. of_size column size) (map (λ m. column_to (f m) most) ms) ≡ map (λ m. f m size) ms
+columns_at f most size h [] = refl
+columns_at f most size h (m ∷ ms) = λ i. within_column (f m) most size h i ∷ columns_at f most size h ms i
+
+item_at : {V : Type 0} (items : V → List Structure) (xs : List V) (i : ℕ) (x : V) → i < length xs → x ≡ get_or xs i x → slice_get (map items xs) i ≡ Some (items x)
+item_at items [] i x within is = absurd (omega arith)
+item_at items (y ∷ xs) zero x within is = ap (λ v. Some (items v)) (sym is)
+item_at items (y ∷ xs) (suc i) x within is = item_at items xs i x (omega arith) is
+
+-- a column has one list more than its greatest size
+pub column_len : {V : Type 0} (items : V → List Structure) (xs : List V) (lists : ℕ → List Structure) (most : ℕ) → map items xs ≡ column_to lists most → most < length xs
+column_len items xs lists most is =
+    let len : length xs ≡ most + 1 = sym (length-map xs items) ∙ ap length is ∙ length-map-range_with_len lists 0 (most + 1) in
+    omega (arith, len)
+
+-- what stands at its greatest size
+pub column_end : {V : Type 0} (items : V → List Structure) (xs : List V) (lists : ℕ → List Structure) (most : ℕ) (x : V) → map items xs ≡ column_to lists most
+    → x ≡ get_or xs most x → items x ≡ lists most
+column_end items xs lists most x is at =
+    sym (ap (λ (o : Option (List Structure)). unwrap_or o []) (item_at items xs most x (column_len items xs lists most is) at))
+    ∙ ap (λ column. of_size column most) is ∙ within_column lists most most (omega arith)
 
 -- a component: what it lists of a size, and its least size, below which it lists nothing
 pub record Component : Type 0 where

@@ -1,7 +1,7 @@
 -- What the listing code needs at each step.
-use Rattle.std.proofs.Common.{◌≡◌, drop, ℕ, zero, suc, slice_get, unwrap_or, Option, Some, ◌+◌, ◌-◌, ◌≤◌, List, [], ◌∷◌, ◌++◌, length, take, get_or, map, refl, sym, ap, ◌∙◌, arith}
+use Rattle.std.proofs.Common.{◌≡◌, drop, ℕ, zero, suc, slice_get, unwrap_or, Option, Some, ◌+◌, ◌-◌, ◌<◌, ◌≤◌, List, [], ◌∷◌, ◌++◌, length, take, get_or, map, refl, sym, ap, ◌∙◌, arith}
 use Rattle.std.specs.List.{flat_map, range_with_len}
-use Rattle.std.proofs.lemmas.List.{take_all, map_more, map-append}
+use Rattle.std.proofs.lemmas.List.{take_all, length-map, map_more, map-append}
 use Rattle.std.proofs.lemmas.Option.{slice_get_within}
 use Rattle.struct_model.specs.Structure.{Structure, Alt}
 use Rattle.listing_laws.specs.Lister.{alternatives, each_before}
@@ -53,17 +53,30 @@ columns_step lists_of column_of old new more children place child grown here at 
     ∙ ap (λ (k : ℕ). map column_of (take place children) ++ column_of k ∷ []) (sym (got children place child at))
     ∙ sym (map_more column_of children place child (slice_get_within children place child at))
 
+-- one more size of which something is made
+pub mapped_step : {V : Type 0} (items : V → List Structure) (f : List Structure → List Structure) (old new done : List V) (x more : V)
+    → new ≡ old ++ more ∷ [] → items more ≡ f (items x) → map items old ≡ map f (map items done) → map items new ≡ map f (map items (done ++ x ∷ []))
+mapped_step items f old new done x more grown here so_far =
+    ap (map items) grown ∙ map-append items old (more ∷ []) ∙ (λ i. so_far i ++ here i ∷ [])
+    ∙ sym (ap (map f) (map-append items done (x ∷ [])) ∙ map-append f (map items done) (items x ∷ []))
+
 -- the alternatives of one more argument
-pub alternatives_step : (lists : ℕ → List Structure) (children : List ℕ) (place child : ℕ) (old new inside : List Structure)
-    → new ≡ old ++ map (Alt (place + 1)) inside → inside ≡ lists child → slice_get children place ≡ Some child
-    → old ≡ alternatives 1 (map lists (take place children)) → new ≡ alternatives 1 (map lists (take (place + 1) children))
-alternatives_step lists children place child old new inside grown inside_is at so_far =
+pub alternatives_step : {V : Type 0} (lists : V → List Structure) (columns : List V) (place : ℕ) (column : V) (old new inside : List Structure)
+    → new ≡ old ++ map (Alt (place + 1)) inside → inside ≡ lists column → place < length columns → column ≡ get_or columns place column
+    → old ≡ alternatives 1 (map lists (take place columns)) → new ≡ alternatives 1 (map lists (take (place + 1) columns))
+alternatives_step lists columns place column old new inside grown inside_is within at so_far =
     grown ∙ (λ i. so_far i ++ map (Alt (turned place i)) (inside_is i))
-    ∙ ap (λ (k : ℕ). alternatives 1 (map lists (take place children)) ++ map (Alt (1 + place)) (lists k)) (sym (got children place child at))
-    ∙ sym (alternatives-map_more lists children place 1 child (slice_get_within children place child at))
+    ∙ ap (λ k. alternatives 1 (map lists (take place columns)) ++ map (Alt (1 + place)) (lists k)) at
+    ∙ sym (alternatives-map_more lists columns place 1 column within)
   where
     turned : (k : ℕ) → k + 1 ≡ 1 + k
     turned k = omega arith
+
+-- there is one column for each child
+pub same_count : {V : Type 0} (lists_of : V → Column) (column_of : ℕ → Column) (columns : List V) (children : List ℕ) (count : ℕ)
+    → count ≡ length children → map lists_of columns ≡ map column_of children → count ≡ length columns
+same_count lists_of column_of columns children count counted are =
+    counted ∙ sym (length-map children column_of) ∙ ap length (sym are) ∙ length-map columns lists_of
 
 -- child number place + 1, counted from 1, is the one at the place
 pub child_at : (children : List ℕ) (place child : ℕ) → slice_get children (place + 1 - 1) ≡ Some child → slice_get children place ≡ Some child
@@ -78,3 +91,6 @@ entry_is table node entry at = ap (λ (o : Option ℕ). unwrap_or o 0) at
 
 pub take_whole : (children : List ℕ) (place count : ℕ) → count ≡ length children → count ≤ place → take place children ≡ children
 take_whole children place count counted past = take_all place children (omega arith)
+
+pub take_every : {X : Type 0} (xs : List X) (place : ℕ) → length xs ≤ place → take place xs ≡ xs
+take_every xs place past = take_all place xs past

@@ -42,9 +42,9 @@ use Rattle.listing_laws.proofs.ProdLeast.{least_adds}
 use Rattle.listing_laws.proofs.Between.{none_below, sum_more}
 use Rattle.listing_laws.proofs.RecursionLemmas.{components_of-sizes}
 use Rattle.listing_laws.proofs.Sizes.{size_of_all}
-use Rattle.combstruct_cli.specs.Columns.{products_of}
-use Rattle.combstruct_cli.specs.NodeListing.{IsUnlabelled, HasKind, listing_of_node, listing_of_rule, least_at, rank_at, rule_rank, column_of, columns_of}
-use Rattle.combstruct_cli.proofs.ColumnLemmas.{Component, total, all_products, columns_to, columns_suffice}
+use Rattle.combstruct_cli.specs.Columns.{alternatives_at, products_of}
+use Rattle.combstruct_cli.specs.NodeListing.{IsUnlabelled, HasKind, listing_of_node, listing_of_rule, least_at, rank_at, rule_rank, arguments_to, column_of, columns_of}
+use Rattle.combstruct_cli.proofs.ColumnLemmas.{columns_at, Component, total, all_products, columns_to, columns_suffice}
 
 -- ---- kinds
 
@@ -405,7 +405,7 @@ module _ (checked : Checked) (ok : IsUnlabelled checked) where
   listings_of n (m ∷ ms) [] nodes = absurd nodes
   listings_of n (m ∷ ms) (e ∷ es) nodes = λ i. sym (node_listing m e n nodes.0) i ∷ listings_of n ms es nodes.1 i
 
-  pub union_listed : (node n : ℕ) → HasKind checked node told.Union
+  union_listed : (node n : ℕ) → HasKind checked node told.Union
       → listing_of_node checked node n ≡ alternatives 1 (map (λ child. listing_of_node checked child n) (children_at checked.rules node))
   union_listed node n h =
       let union : UnionNode node = union_node node h in
@@ -415,6 +415,11 @@ module _ (checked : Checked) (ok : IsUnlabelled checked) where
       ∙ ap (alternatives 1) (listings_of n (children_of node (expr.Union union.arguments)) (expression_list union.arguments)
       (children_are checked.rules node (expr.Union union.arguments) union.at))
       ∙ ap (λ ms. alternatives 1 (map (λ child. listing_of_node checked child n) ms)) (sym (children_at_is checked.rules node (expr.Union union.arguments) union.at))
+
+  -- by the columns of the arguments
+  pub union_at : (node n most : ℕ) → HasKind checked node told.Union → n ≤ most → alternatives_at (arguments_to checked node most) n ≡ listing_of_node checked node n
+  union_at node n most h within =
+      ap (alternatives 1) (columns_at (listing_of_node checked) most n within (children_at checked.rules node)) ∙ sym (union_listed node n h)
 
   pub union_falls : (node place child : ℕ) → HasKind checked node told.Union → slice_get (children_at checked.rules node) place ≡ Some child
       → rank_at checked child < rank_at checked node

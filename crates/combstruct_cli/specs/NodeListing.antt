@@ -41,6 +41,10 @@ abbrev pub rule_rank : Checked → ℕ → ℕ
 rule_rank checked sym =
     option_map_or (λ right. if is_told_inside right then rank_at checked (right_node checked.rules sym) + 1 else 0) (right_side checked.rules sym) 0
 
+-- the structures of each child of the node up to a size
+abbrev pub arguments_to : Checked → ℕ → ℕ → List Column
+arguments_to checked node most = map (λ child. column_to (listing_of_node checked child) most) (children_at checked.rules node)
+
 -- the structures of a node up to its least size and `spare` more atoms
 abbrev pub column_of : Checked → ℕ → ℕ → Column
 column_of checked spare node = column_to (listing_of_node checked node) (least_at checked node + spare)

@@ -2,37 +2,40 @@ use Rattle.std.proofs.Common.{◌≡◌, ◌+◌, ◌*◌, length, map, take}
 use Rattle.std.specs.List.{range_with_len}
 use Rattle.spec_syntax.specs.Rules.{all_nodes}
 use Rattle.well_founded.specs.NodeKinds.{children_at}
-use Rattle.listing_laws.specs.Lister.{alternatives}
+use Rattle.combstruct_cli.specs.Columns.{column_to}
 use Rattle.combstruct_cli.specs.ColumnView.{lists_of}
 use Rattle.combstruct_cli.specs.NodeListing.{listing_of_node, least_at, column_of, rank_at, rule_rank}
 use Rattle.combstruct_cli.proofs.list.+listing.Given as goal
 
-abbrev pub decreases-list_rule : goal.decreases-list_rule
-decreases-list_rule l = 4 * (l.n * length (all_nodes l.grammar.now.rules) + rule_rank l.grammar.now l.sym)
+abbrev pub decreases-list_rule_column : goal.decreases-list_rule_column
+decreases-list_rule_column l = 4 * (l.most * length (all_nodes l.grammar.now.rules) + rule_rank l.grammar.now l.sym)
 
 abbrev pub decreases-list_node : goal.decreases-list_node
-decreases-list_node l = 4 * (l.n * length (all_nodes l.grammar.now.rules) + rank_at l.grammar.now l.node) + 3
+decreases-list_node l = 4 * (l.most * length (all_nodes l.grammar.now.rules) + rank_at l.grammar.now l.node) + 3
 
 abbrev pub decreases-list_union : goal.decreases-list_union
-decreases-list_union l = 4 * (l.n * length (all_nodes l.grammar.now.rules) + rank_at l.grammar.now l.node) + 2
+decreases-list_union l = 4 * (l.most * length (all_nodes l.grammar.now.rules) + rank_at l.grammar.now l.node) + 2
 
 abbrev pub decreases-list_prod : goal.decreases-list_prod
-decreases-list_prod l = 4 * (l.n * length (all_nodes l.grammar.now.rules) + rank_at l.grammar.now l.node) + 2
+decreases-list_prod l = 4 * (l.most * length (all_nodes l.grammar.now.rules) + rank_at l.grammar.now l.node) + 2
 
 abbrev pub decreases-list_columns : goal.decreases-list_columns
 decreases-list_columns l =
     4 * ((least_at l.grammar.now l.node + l.spare) * length (all_nodes l.grammar.now.rules) + rank_at l.grammar.now l.node) + 1
 
-abbrev pub decreases-list_column : goal.decreases-list_column
-decreases-list_column l = 4 * (l.most * length (all_nodes l.grammar.now.rules) + rank_at l.grammar.now l.node) + 4
+abbrev pub decreases-list_arguments : goal.decreases-list_arguments
+decreases-list_arguments l = 4 * (l.most * length (all_nodes l.grammar.now.rules) + rank_at l.grammar.now l.node) + 1
 
-abbrev pub invariant-list_union-loop-place : goal.invariant-list_union-loop-place
-invariant-list_union-loop-place l =
-    l.list.items ≡ alternatives 1 (map (λ child. listing_of_node l.grammar child l.n) (take l.place (children_at l.grammar.rules l.node)))
+abbrev pub invariant-list_union-loop-size : goal.invariant-list_union-loop-size
+invariant-list_union-loop-size l = map (λ list. list.items) l.sizes.items ≡ map (listing_of_node l.grammar l.node) (range_with_len 0 l.size)
+
+abbrev pub invariant-list_arguments-loop-place : goal.invariant-list_arguments-loop-place
+invariant-list_arguments-loop-place l =
+    map lists_of l.columns.items ≡ map (λ child. column_to (listing_of_node l.grammar child) l.most) (take l.place (children_at l.grammar.rules l.node))
+
+abbrev pub invariant-list_prod-loop-size : goal.invariant-list_prod-loop-size
+invariant-list_prod-loop-size l = map (λ list. list.items) l.sizes.items ≡ map (listing_of_node l.grammar l.node) (range_with_len 0 l.size)
 
 abbrev pub invariant-list_columns-loop-place : goal.invariant-list_columns-loop-place
 invariant-list_columns-loop-place l =
     map lists_of l.columns.items ≡ map (column_of l.grammar l.spare) (take l.place (children_at l.grammar.rules l.node))
-
-abbrev pub invariant-list_column-loop-size : goal.invariant-list_column-loop-size
-invariant-list_column-loop-size l = map (λ list. list.items) l.sizes.items ≡ map (listing_of_node l.grammar l.node) (range_with_len 0 l.size)
