@@ -1,6 +1,7 @@
 -- Expressions as plain trees.
 use Rattle.std.specs.Prelude.{ℕ, Bool, true, false, ◌&&◌, List, [], ◌∷◌, ◌++◌, length}
 use Rattle.spec_syntax.specs.declared.expr.Kind.{Kind}
+use Rattle.spec_syntax.specs.declared.expr.Kind.TheVariants.{Sequence}
 use Rattle.spec_syntax.specs.declared.expr.Card.{Card}
 use Rattle.spec_syntax.specs.Card.{is_writable}
 
@@ -49,6 +50,12 @@ nodes_of_all es = length (preorder_of_all es)
 abbrev pub has_some : Expressions → Bool
 has_some no_expressions = false
 has_some (more_expressions e es) = true
+
+-- is the expression no container, or a Sequence
+abbrev pub is_sequence_at_most : Expression → Bool
+is_sequence_at_most (Many Sequence element card) = true
+is_sequence_at_most (Many _ element card) = false
+is_sequence_at_most e = true
 
 abbrev mutual
   -- has each Union and each Prod an argument, and can each bound be written
