@@ -1,9 +1,10 @@
 -- What is built of a statement is what it says.
-use Rattle.std.proofs.Common.{◌≡◌, ℕ, suc, Some, Result, Ok, List, [], ◌∷◌, ◌++◌, map, reverse, refl, sym, ap, ◌∙◌, append_assoc, append-nil}
+use Rattle.std.proofs.Common.{◌≡◌, ℕ, suc, Option, Some, None, Result, Ok, List, [], ◌∷◌, ◌++◌, map, reverse, refl, sym, ap, ◌∙◌, append_assoc, append-nil}
 use Rattle.std.specs.Prelude.{zip, false}
 use Rattle.std.proofs.lemmas.List.{reverse-append, reverse-reverse}
 use Rattle.spec_syntax.specs.Expression.{Expression}
 use Rattle.spec_syntax.specs.Rules.{Rules}
+use Rattle.spec_syntax.specs.declared.statement.Universe.{Universe}
 use Rattle.spec_syntax.specs.declared.statement.Universe.TheVariants as universe
 use Rattle.spec_syntax.specs.declared.statement.RulesRef.TheVariants as rules_ref
 use Rattle.spec_syntax.specs.declared.statement.ClassRef.TheVariants as class_ref
@@ -13,19 +14,29 @@ use Rattle.spec_syntax.specs.declared.statement.Statement.{Statement}
 use Rattle.spec_reader.specs.declared.refusal.Fault.{Fault}
 use Rattle.spec_reader.specs.declared.token.Sign.TheVariants as sign
 use Rattle.spec_reader.specs.declared.token.Keyword.TheVariants as word
+use Rattle.spec_reader.specs.declared.table.Comparison.TheVariants as compare
 use Rattle.spec_reader.specs.declared.draft.Command.TheVariants as command
 use Rattle.spec_reader.specs.declared.draft.Draft.{Draft}
 use Rattle.spec_reader.specs.Tokens.{value}
 use Rattle.spec_reader.specs.Grammar as tree
-use Rattle.spec_reader.specs.Grammar.{Marked, ExprTree, ExprTrees, RuleTree, RulesTree, ClassTree, StatementTree, expr, more_exprs, rule, more_rules, rules, class, statement}
-use Rattle.spec_reader.specs.Meaning.{expression_of, rule_of, rules_of, meaning}
+use Rattle.spec_reader.specs.Grammar.{BoundTree, ExprTree, ExprTrees, RuleTree, RulesTree, SymbolTree, UniverseTree, ClassTree, StatementTree, container_end, expr, more_exprs, rule, more_rules, rules, symbol, class_end, class, statement}
+use Rattle.spec_reader.specs.Meaning.{name_of, right_of, rule_of, rules_of, symbol_of, universe_of, meaning}
 use Rattle.spec_reader.specs.Drafts.{empty}
 use Rattle.spec_reader.specs.Machine as machine
 use Rattle.spec_reader.specs.Reading.{names_in}
-use Rattle.spec_reader.proofs.Productions.{effect_of_rules, effect_of_statement}
+use Rattle.spec_reader.proofs.Productions.{effect_of_rules, effect_of_class_end, effect_of_statement}
 use Rattle.spec_reader.proofs.SeenLemmas.{seen_of, names_in-append}
 
 -- an expression names no rule
+names-container_end : (end : Option BoundTree) → names_in (container_end end) ≡ []
+names-container_end None = refl
+names-container_end (Some (tree.CardFirst compare.Equal digits)) = refl
+names-container_end (Some (tree.CardFirst compare.AtMost digits)) = refl
+names-container_end (Some (tree.CardFirst compare.AtLeast digits)) = refl
+names-container_end (Some (tree.NumberFirst digits compare.Equal)) = refl
+names-container_end (Some (tree.NumberFirst digits compare.AtMost)) = refl
+names-container_end (Some (tree.NumberFirst digits compare.AtLeast)) = refl
+
 mutual
   names-expr : (depth : ℕ) (t : ExprTree) → names_in (expr depth t) ≡ []
   names-expr depth tree.Epsilon = refl
@@ -36,20 +47,18 @@ mutual
       names_in-append (expr (suc depth) first) (more_exprs (suc depth) others) ∙ (λ k. names-expr (suc depth) first k ++ names-more-exprs (suc depth) others k)
   names-expr depth (tree.Prod first others) =
       names_in-append (expr (suc depth) first) (more_exprs (suc depth) others) ∙ (λ k. names-expr (suc depth) first k ++ names-more-exprs (suc depth) others k)
+  names-expr depth (tree.Sequence element end) =
+      names_in-append (expr (suc depth) element) (container_end end) ∙ (λ k. names-expr (suc depth) element k ++ names-container_end end k)
 
   names-more-exprs : (depth : ℕ) (es : ExprTrees) → names_in (more_exprs depth es) ≡ []
   names-more-exprs depth tree.no_more = refl
   names-more-exprs depth (tree.more e es) =
       names_in-append (expr depth e) (more_exprs depth es) ∙ (λ k. names-expr depth e k ++ names-more-exprs depth es k)
 
-abbrev name_of : RuleTree → List ℕ
-name_of r = r.name
-
-abbrev right_of : RuleTree → Expression
-right_of r = expression_of r.right
-
-names-rule : (r : RuleTree) → names_in (rule r) ≡ r.name ∷ []
-names-rule r = ap (λ rest. r.name ∷ rest) (names-expr 1 r.right)
+names-rule : (r : RuleTree) → names_in (rule r) ≡ name_of r ∷ []
+names-rule (tree.Rule name right) = ap (λ rest. name ∷ rest) (names-expr 1 right)
+names-rule (tree.RuleOfZ tree.ByZ) = refl
+names-rule (tree.RuleOfZ tree.ByAtom) = refl
 
 names-rules : (rs : List RuleTree) → names_in (more_rules rs) ≡ map name_of rs
 names-rules [] = refl
@@ -58,9 +67,23 @@ names-rules (r ∷ rs) = names_in-append (rule r) (more_rules rs) ∙ (λ k. nam
 names-all-rules : (rs : RulesTree) → names_in (rules rs) ≡ map name_of (rs.first ∷ rs.others)
 names-all-rules rs = names_in-append (rule rs.first) (more_rules rs.others) ∙ (λ k. names-rule rs.first k ++ names-rules rs.others k)
 
+names-symbol : (s : SymbolTree) → names_in (symbol s) ≡ []
+names-symbol (tree.SymbolName text) = refl
+names-symbol tree.SymbolZ = refl
+
+names-class_end : (end : Option UniverseTree) → names_in (class_end end) ≡ []
+names-class_end None = refl
+names-class_end (Some tree.Labelled) = refl
+names-class_end (Some tree.Unlabelled) = refl
+names-class_end (Some tree.Labeled) = refl
+names-class_end (Some tree.Unlabeled) = refl
+
 names-class : (c : ClassTree) → names_in (class c) ≡ map name_of (c.rules.first ∷ c.rules.others)
 names-class c =
-    names_in-append (rules c.rules) (tree.sign sign.Comma ∷ tree.word word.Unlabelled ∷ tree.sign sign.CloseBracket ∷ [])
+    names_in-append (symbol c.symbol) (tree.sign sign.Comma ∷ rules c.rules ++ class_end c.universe)
+    ∙ ap (λ front. front ++ names_in (rules c.rules ++ class_end c.universe)) (names-symbol c.symbol)
+    ∙ names_in-append (rules c.rules) (class_end c.universe)
+    ∙ ap (λ rest. names_in (rules c.rules) ++ rest) (names-class_end c.universe)
     ∙ append-nil (names_in (rules c.rules)) ∙ names-all-rules c.rules
 
 names-statement : (c : ClassTree) (digits : List ℕ) → names_in (statement (tree.Asks (tree.AllStructs c digits))) ≡ map name_of (c.rules.first ∷ c.rules.others)
@@ -69,15 +92,15 @@ names-statement c digits =
     ∙ names_in-append (class c) (tree.sign sign.Comma ∷ tree.word word.Size ∷ tree.sign sign.Equals ∷ tree.size digits ∷ tree.sign sign.CloseParen ∷ [])
     ∙ append-nil (names_in (class c)) ∙ names-class c
 
-abbrev listed : List ℕ → List Expression → ℕ → Draft
-listed symbol rights size = record { command = Some command.AllStructs; symbol = symbol; rights = rights; pending = []; size = size }
+abbrev listed : List ℕ → Universe → List Expression → ℕ → Draft
+listed symbol named rights size = record { command = Some command.AllStructs; symbol = symbol; universe = named; rights = rights; pending = []; size = size }
 
-rules-built : (rs : List RuleTree) (symbol : List ℕ) (rights : List Expression) (size : ℕ)
-    → effect_of_rules rs (listed symbol rights size) ≡ listed symbol (reverse (map right_of rs) ++ rights) size
-rules-built [] symbol rights size = refl
-rules-built (r ∷ rs) symbol rights size =
-    rules-built rs symbol (right_of r ∷ rights) size
-    ∙ ap (λ those. listed symbol those size)
+rules-built : (rs : List RuleTree) (symbol : List ℕ) (named : Universe) (rights : List Expression) (size : ℕ)
+    → effect_of_rules rs (listed symbol named rights size) ≡ listed symbol named (reverse (map right_of rs) ++ rights) size
+rules-built [] symbol named rights size = refl
+rules-built (r ∷ rs) symbol named rights size =
+    rules-built rs symbol named (right_of r ∷ rights) size
+    ∙ ap (λ those. listed symbol named those size)
     (sym (append_assoc (reverse (map right_of rs)) (right_of r ∷ []) rights) ∙ ap (λ those. those ++ rights) (sym (reverse-append (right_of r ∷ []) (map right_of rs))))
 
 zip-map : (rs : List RuleTree) → zip (map name_of rs) (map right_of rs) ≡ map rule_of rs
@@ -91,14 +114,23 @@ rules-are names rs same =
     reverse-append (reverse (map right_of rs.others)) (right_of rs.first ∷ []) ∙ ap (λ rest. right_of rs.first ∷ rest) (reverse-reverse (map right_of rs.others)) in
     (λ k. zip ((reverse-reverse names ∙ same) k) (rights k)) ∙ zip-map (rs.first ∷ rs.others)
 
+-- where no universe is written it is unlabelled
+class_end-built : (end : Option UniverseTree) (symbol : List ℕ) (rights : List Expression) (size : ℕ)
+    → effect_of_class_end end (listed symbol universe.Unlabelled rights size) ≡ listed symbol (universe_of end) rights size
+class_end-built None symbol rights size = refl
+class_end-built (Some end) symbol rights size = refl
+
 -- what is built of a statement is what it says
 pub built-means : (t : StatementTree) (end : ℕ)
     → machine.finished [] end (record { expected = []; seen = seen_of (statement t); draft = effect_of_statement t empty }) ≡ Ok (meaning t)
 built-means tree.Bare end = refl
 built-means (tree.Asks (tree.AllStructs c digits)) end =
     let names = names_in (statement (tree.Asks (tree.AllStructs c digits))) in
-    let drafts : effect_of_statement (tree.Asks (tree.AllStructs c digits)) empty ≡ listed c.symbol (reverse (map right_of c.rules.others) ++ right_of c.rules.first ∷ []) (value digits) =
-    ap {A = Draft} {B = Draft} (λ d. record d { size = value digits }) (rules-built c.rules.others c.symbol (right_of c.rules.first ∷ []) 0) in
+    let all = reverse (map right_of c.rules.others) ++ right_of c.rules.first ∷ [] in
+    let drafts : effect_of_statement (tree.Asks (tree.AllStructs c digits)) empty ≡ listed (symbol_of c.symbol) (universe_of c.universe) all (value digits) =
+    ap {A = Draft} {B = Draft} (λ d. record (effect_of_class_end c.universe d) { size = value digits })
+    (rules-built c.rules.others (symbol_of c.symbol) universe.Unlabelled (right_of c.rules.first ∷ []) 0)
+    ∙ ap {A = Draft} {B = Draft} (λ d. record d { size = value digits }) (class_end-built c.universe (symbol_of c.symbol) all 0) in
     ap {A = Draft} (λ d. machine.finished [] end (record { expected = []; seen = seen_of (statement (tree.Asks (tree.AllStructs c digits))); draft = d })) drafts
-    ∙ ap {A = Rules} {B = Result Statement Fault} (λ rs. Ok (record { form = form.List (job.Grammar (class_ref.Written c.symbol (rules_ref.Written rs) universe.Unlabelled) (value digits)); quiet = false }))
+    ∙ ap {A = Rules} {B = Result Statement Fault} (λ rs. Ok (record { form = form.List (job.Grammar (class_ref.Written (symbol_of c.symbol) (rules_ref.Written rs) (universe_of c.universe)) (value digits)); quiet = false }))
     (rules-are names c.rules (names-statement c digits))

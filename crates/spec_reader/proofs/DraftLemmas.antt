@@ -1,16 +1,25 @@
 -- What is built stays well formed, and holds no more expressions than were read.
-use Rattle.std.proofs.Common.{◌≡◌, ℕ, suc, ◌+◌, ◌-◌, ◌≤◌, true, Option, List, [], ◌∷◌, ◌++◌, length-append, refl, subst, arith}
+use Rattle.std.proofs.Common.{◌≡◌, ℕ, ◌+◌, ◌-◌, ◌≤◌, true, Option, Some, None, List, [], ◌∷◌, ◌++◌, length-append, refl, ◌∙◌, subst, arith}
 use Rattle.std.specs.List.{list_all}
+use Rattle.std.proofs.lemmas.Bool.Decides.{nat_tests}
 use Rattle.std.proofs.lemmas.List.Sums.{sum_by-cons}
-use Rattle.spec_syntax.specs.Expression.{Expression, preorder, preorder_of_all, expressions_of, nodes, nodes_of_all, has_some, is_well_formed, are_well_formed}
+use Rattle.spec_syntax.specs.Card.{is_writable}
+use Rattle.spec_syntax.specs.Expression.{Expression, Union, Prod, Many, preorder, preorder_of_all, expressions_of, nodes, nodes_of_all, has_some, is_well_formed, are_well_formed}
+use Rattle.spec_syntax.specs.declared.expr.Kind.{Kind}
+use Rattle.spec_syntax.specs.declared.statement.Universe.{Universe}
 use Rattle.spec_reader.specs.declared.table.Item.{Item}
 use Rattle.spec_reader.specs.declared.table.Item.TheVariants as item
 use Rattle.spec_reader.specs.declared.table.Former.{Former}
 use Rattle.spec_reader.specs.declared.table.Former.TheVariants as former
+use Rattle.spec_reader.specs.declared.table.Comparison.{Comparison}
+use Rattle.spec_reader.specs.declared.table.Comparison.TheVariants as compare
 use Rattle.spec_reader.specs.declared.draft.Command.{Command}
+use Rattle.spec_reader.specs.declared.draft.Bound.{Bound}
 use Rattle.spec_reader.specs.declared.draft.Compound.{Compound}
+use Rattle.spec_reader.specs.declared.draft.Compound.TheVariants.{Several, Container}
 use Rattle.spec_reader.specs.declared.draft.Draft.{Draft}
-use Rattle.spec_reader.specs.Drafts.{put, close, formed, is_filled, is_ready, built}
+use Rattle.spec_reader.specs.Meaning.{card_by}
+use Rattle.spec_reader.specs.Drafts.{put, close, unbounded, rebound, is_filled, is_ready, is_well_begun, begun, built}
 
 pub nodes-push : (es : List Expression) (e : Expression) → nodes_of_all (expressions_of (es ++ e ∷ [])) ≡ nodes_of_all (expressions_of es) + nodes e
 nodes-push [] e = omega (arith, length-append (preorder e) [])
@@ -28,85 +37,141 @@ some-push (first ∷ es) e = refl
 -- a draft whose expressions are well formed, of so many
 pub record Holds (n : ℕ) (draft : Draft) : Type 0 where
   pub rights : list_all is_well_formed draft.rights ≡ true
-  pub pending : list_all (λ (c : Compound). are_well_formed (expressions_of c.arguments)) draft.pending ≡ true
+  pub pending : list_all is_well_begun draft.pending ≡ true
   pub count : built draft ≤ n
 
-abbrev held : Compound → ℕ
-held c = suc (nodes_of_all (expressions_of c.arguments))
+abbrev draft_of : Option Command → List ℕ → Universe → List Expression → List Compound → ℕ → Draft
+draft_of command symbol named rights pending size = record { command = command; symbol = symbol; universe = named; rights = rights; pending = pending; size = size }
 
-abbrev draft_of : Option Command → List ℕ → List Expression → List Compound → ℕ → Draft
-draft_of command symbol rights pending size = record { command = command; symbol = symbol; rights = rights; pending = pending; size = size }
-
-put-parts : (n : ℕ) (e : Expression) (command : Option Command) (symbol : List ℕ) (rights : List Expression) (pending : List Compound) (size : ℕ)
-    → Holds n (draft_of command symbol rights pending size) → is_well_formed e ≡ true → Holds (n + nodes e) (put e (draft_of command symbol rights pending size))
-put-parts n e command symbol rights [] size holds whole = record {
+put-parts : (n : ℕ) (e : Expression) (command : Option Command) (symbol : List ℕ) (named : Universe) (rights : List Expression) (pending : List Compound) (size : ℕ)
+    → Holds n (draft_of command symbol named rights pending size) → is_well_formed e ≡ true → Holds (n + nodes e) (put e (draft_of command symbol named rights pending size))
+put-parts n e command symbol named rights [] size holds whole = record {
   rights = grind (arith, whole, holds.rights);
   pending = refl;
   count = omega (arith, holds.count, sum_by-cons nodes e rights);
 }
-put-parts n e command symbol rights (c ∷ pending) size holds whole = record {
+put-parts n e command symbol named rights (Several f es ∷ pending) size holds whole = record {
   rights = holds.rights;
-  pending = grind (arith, holds.pending, well_formed-push c.arguments e);
-  count = omega (arith, holds.count, nodes-push c.arguments e, sum_by-cons held c pending, sum_by-cons held (record c { arguments = c.arguments ++ e ∷ [] }) pending);
+  pending = grind (arith, holds.pending, well_formed-push es e);
+  count = omega (arith, holds.count, nodes-push es e, sum_by-cons begun (Several f es) pending, sum_by-cons begun (Several f (es ++ e ∷ [])) pending);
+}
+put-parts n e command symbol named rights (Container k element bound ∷ pending) size holds whole = record {
+  rights = holds.rights;
+  pending = grind (arith, holds.pending, whole);
+  count = omega (arith, holds.count, sum_by-cons begun (Container k element bound) pending, sum_by-cons begun (Container k (Some e) bound) pending);
 }
 
 -- one more expression that is whole
 pub put-holds : (n : ℕ) (e : Expression) (draft : Draft) → Holds n draft → is_well_formed e ≡ true → Holds (n + nodes e) (put e draft)
-put-holds n e draft holds whole = put-parts n e draft.command draft.symbol draft.rights draft.pending draft.size holds whole
+put-holds n e draft holds whole = put-parts n e draft.command draft.symbol draft.universe draft.rights draft.pending draft.size holds whole
 
-formed-well : (f : Former) (es : List Expression) → has_some (expressions_of es) ≡ true → are_well_formed (expressions_of es) ≡ true → is_well_formed (formed f es) ≡ true
-formed-well former.Union es some all = grind (arith, some, all)
-formed-well former.Prod es some all = grind (arith, some, all)
-
-formed-nodes : (f : Former) (es : List Expression) → nodes (formed f es) ≡ suc (nodes_of_all (expressions_of es))
-formed-nodes former.Union es = refl
-formed-nodes former.Prod es = refl
-
-close-parts : (n : ℕ) (command : Option Command) (symbol : List ℕ) (rights : List Expression) (pending : List Compound) (size : ℕ)
-    → Holds n (draft_of command symbol rights pending size) → is_filled pending ≡ true → Holds n (close (draft_of command symbol rights pending size))
-close-parts n command symbol rights [] size holds filled = holds
-close-parts n command symbol rights (c ∷ pending) size holds filled =
-    let e = formed c.former c.arguments in
-    let whole : is_well_formed e ≡ true = formed-well c.former c.arguments filled (grind (arith, holds.pending)) in
-    let less : Holds (n - nodes e) (draft_of command symbol rights pending size) = record {
+-- what becomes whole is put in place of its parts
+closed-holds : (n : ℕ) (compound : Compound) (e : Expression) (command : Option Command) (symbol : List ℕ) (named : Universe) (rights : List Expression) (pending : List Compound) (size : ℕ)
+    → Holds n (draft_of command symbol named rights (compound ∷ pending) size) → is_well_formed e ≡ true → nodes e ≡ begun compound
+    → Holds n (put e (draft_of command symbol named rights pending size))
+closed-holds n compound e command symbol named rights pending size holds whole same =
+    let less : Holds (n - nodes e) (draft_of command symbol named rights pending size) = record {
       rights = holds.rights;
       pending = grind (arith, holds.pending);
-      count = omega (arith, holds.count, formed-nodes c.former c.arguments, sum_by-cons held c pending);
+      count = omega (arith, holds.count, sum_by-cons begun compound pending);
     } in
-    let same : n - nodes e + nodes e ≡ n = omega (arith, holds.count, formed-nodes c.former c.arguments, sum_by-cons held c pending) in
-    subst (λ m. Holds m (put e (draft_of command symbol rights pending size))) same (put-holds (n - nodes e) e (draft_of command symbol rights pending size) less whole)
+    let all : n - nodes e + nodes e ≡ n = omega (arith, holds.count, sum_by-cons begun compound pending) in
+    subst (λ m. Holds m (put e (draft_of command symbol named rights pending size))) all
+    (put-holds (n - nodes e) e (draft_of command symbol named rights pending size) less whole)
+
+-- each bound that is read can be written
+card-writable : (c : Comparison) (k : ℕ) → is_writable (card_by c k) ≡ true
+card-writable compare.Equal k = grind (arith, nat_tests)
+card-writable compare.AtMost k = grind (arith, nat_tests)
+card-writable compare.AtLeast k = refl
+
+close-parts : (n : ℕ) (command : Option Command) (symbol : List ℕ) (named : Universe) (rights : List Expression) (pending : List Compound) (size : ℕ)
+    → Holds n (draft_of command symbol named rights pending size) → is_filled pending ≡ true → Holds n (close (draft_of command symbol named rights pending size))
+close-parts n command symbol named rights [] size holds filled = holds
+close-parts n command symbol named rights (Several former.Union es ∷ pending) size holds filled =
+    closed-holds n (Several former.Union es) (Union (expressions_of es)) command symbol named rights pending size holds (grind (arith, filled, holds.pending)) refl
+close-parts n command symbol named rights (Several former.Prod es ∷ pending) size holds filled =
+    closed-holds n (Several former.Prod es) (Prod (expressions_of es)) command symbol named rights pending size holds (grind (arith, filled, holds.pending)) refl
+close-parts n command symbol named rights (Container k None bound ∷ pending) size holds filled = cc
+close-parts n command symbol named rights (Container k (Some e) bound ∷ pending) size holds filled =
+    closed-holds n (Container k (Some e) bound) (Many k e (card_by bound.comparison bound.number)) command symbol named rights pending size holds
+    (grind (arith, holds.pending, card-writable bound.comparison bound.number)) refl
 
 -- an expression becomes whole
 pub close-holds : (n : ℕ) (draft : Draft) → Holds n draft → is_filled draft.pending ≡ true → Holds n (close draft)
-close-holds n draft holds filled = close-parts n draft.command draft.symbol draft.rights draft.pending draft.size holds filled
+close-holds n draft holds filled = close-parts n draft.command draft.symbol draft.universe draft.rights draft.pending draft.size holds filled
 
-put-filled-parts : (e : Expression) (command : Option Command) (symbol : List ℕ) (rights : List Expression) (pending : List Compound) (size : ℕ)
-    → is_filled (put e (draft_of command symbol rights pending size)).pending ≡ true
-put-filled-parts e command symbol rights [] size = refl
-put-filled-parts e command symbol rights (c ∷ pending) size = some-push c.arguments e
+put-filled-parts : (e : Expression) (command : Option Command) (symbol : List ℕ) (named : Universe) (rights : List Expression) (pending : List Compound) (size : ℕ)
+    → is_filled (put e (draft_of command symbol named rights pending size)).pending ≡ true
+put-filled-parts e command symbol named rights [] size = refl
+put-filled-parts e command symbol named rights (Several f es ∷ pending) size = some-push es e
+put-filled-parts e command symbol named rights (Container k element bound ∷ pending) size = refl
 
 pub put-filled : (e : Expression) (draft : Draft) → is_filled (put e draft).pending ≡ true
-put-filled e draft = put-filled-parts e draft.command draft.symbol draft.rights draft.pending draft.size
+put-filled e draft = put-filled-parts e draft.command draft.symbol draft.universe draft.rights draft.pending draft.size
 
-close-filled-parts : (command : Option Command) (symbol : List ℕ) (rights : List Expression) (pending : List Compound) (size : ℕ)
-    → is_filled (close (draft_of command symbol rights pending size)).pending ≡ true
-close-filled-parts command symbol rights [] size = refl
-close-filled-parts command symbol rights (c ∷ pending) size = put-filled (formed c.former c.arguments) (draft_of command symbol rights pending size)
+close-filled-parts : (command : Option Command) (symbol : List ℕ) (named : Universe) (rights : List Expression) (pending : List Compound) (size : ℕ)
+    → is_filled pending ≡ true → is_filled (close (draft_of command symbol named rights pending size)).pending ≡ true
+close-filled-parts command symbol named rights [] size filled = refl
+close-filled-parts command symbol named rights (Several former.Union es ∷ pending) size filled = put-filled (Union (expressions_of es)) (draft_of command symbol named rights pending size)
+close-filled-parts command symbol named rights (Several former.Prod es ∷ pending) size filled = put-filled (Prod (expressions_of es)) (draft_of command symbol named rights pending size)
+close-filled-parts command symbol named rights (Container k None bound ∷ pending) size filled = cc
+close-filled-parts command symbol named rights (Container k (Some e) bound ∷ pending) size filled =
+    put-filled (Many k e (card_by bound.comparison bound.number)) (draft_of command symbol named rights pending size)
 
-pub close-filled : (draft : Draft) → is_filled (close draft).pending ≡ true
-close-filled draft = close-filled-parts draft.command draft.symbol draft.rights draft.pending draft.size
+pub close-filled : (draft : Draft) → is_filled draft.pending ≡ true → is_filled (close draft).pending ≡ true
+close-filled draft filled = close-filled-parts draft.command draft.symbol draft.universe draft.rights draft.pending draft.size filled
 
 -- where the innermost expression has an argument, anything may be expected
 pub ready-filled : (items : List Item) (pending : List Compound) → is_filled pending ≡ true → is_ready items pending ≡ true
 ready-filled [] pending filled = refl
+ready-filled (item.RightOfZ ∷ items) pending filled = refl
 ready-filled (item.Expr depth ∷ items) pending filled = refl
 ready-filled (item.MoreExprs depth ∷ items) pending filled = filled
+ready-filled (item.ContainerEnd ∷ items) pending filled = filled
+ready-filled (item.BoundEnd ∷ items) pending filled = filled
 ready-filled (_ ∷ items) pending filled = ready-filled items pending filled
 
 -- an expression with arguments begins
-pub begun-holds : (n : ℕ) (former : Former) (draft : Draft) → Holds n draft → Holds (n + 1) (record draft { pending = record { former = former; arguments = [] } ∷ draft.pending })
+pub begun-holds : (n : ℕ) (former : Former) (draft : Draft) → Holds n draft → Holds (n + 1) (record draft { pending = Several former [] ∷ draft.pending })
 begun-holds n former draft holds = record {
   rights = holds.rights;
   pending = holds.pending;
-  count = omega (arith, holds.count, sum_by-cons held (record { former = former; arguments = [] }) draft.pending);
+  count = omega (arith, holds.count, sum_by-cons begun (Several former []) draft.pending);
 }
+
+-- a container begins
+pub begun-container-holds : (n : ℕ) (k : Kind) (draft : Draft) → Holds n draft → Holds (n + 1) (record draft { pending = Container k None unbounded ∷ draft.pending })
+begun-container-holds n k draft holds = record {
+  rights = holds.rights;
+  pending = holds.pending;
+  count = omega (arith, holds.count, sum_by-cons begun (Container k None unbounded) draft.pending);
+}
+
+-- another bound changes nothing of that
+rebound-filled : (change : Bound → Bound) (pending : List Compound) → is_filled (rebound change pending) ≡ is_filled pending
+rebound-filled change [] = refl
+rebound-filled change (Several f es ∷ pending) = refl
+rebound-filled change (Container k element bound ∷ pending) = refl
+
+pub rebound-ready : (change : Bound → Bound) (items : List Item) (pending : List Compound) → is_ready items pending ≡ true → is_ready items (rebound change pending) ≡ true
+rebound-ready change [] pending ready = refl
+rebound-ready change (item.RightOfZ ∷ items) pending ready = refl
+rebound-ready change (item.Expr depth ∷ items) pending ready = refl
+rebound-ready change (item.MoreExprs depth ∷ items) pending ready = rebound-filled change pending ∙ ready
+rebound-ready change (item.ContainerEnd ∷ items) pending ready = rebound-filled change pending ∙ ready
+rebound-ready change (item.BoundEnd ∷ items) pending ready = rebound-filled change pending ∙ ready
+rebound-ready change (_ ∷ items) pending ready = rebound-ready change items pending ready
+
+rebound-parts : (n : ℕ) (change : Bound → Bound) (command : Option Command) (symbol : List ℕ) (named : Universe) (rights : List Expression) (pending : List Compound) (size : ℕ)
+    → Holds n (draft_of command symbol named rights pending size) → Holds n (draft_of command symbol named rights (rebound change pending) size)
+rebound-parts n change command symbol named rights [] size holds = holds
+rebound-parts n change command symbol named rights (Several f es ∷ pending) size holds = holds
+rebound-parts n change command symbol named rights (Container k element bound ∷ pending) size holds = record {
+  rights = holds.rights;
+  pending = holds.pending;
+  count = omega (arith, holds.count, sum_by-cons begun (Container k element bound) pending, sum_by-cons begun (Container k element (change bound)) pending);
+}
+
+pub rebound-holds : (n : ℕ) (change : Bound → Bound) (draft : Draft) → Holds n draft → Holds n (record draft { pending = rebound change draft.pending })
+rebound-holds n change draft holds = rebound-parts n change draft.command draft.symbol draft.universe draft.rights draft.pending draft.size holds

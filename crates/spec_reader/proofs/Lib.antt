@@ -17,3 +17,4 @@ pub mod Agree
 pub mod Pieces
 pub mod Keeps
 pub mod Small
+pub mod Sequences

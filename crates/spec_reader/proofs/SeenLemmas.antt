@@ -38,6 +38,8 @@ seen_of-push before role.RuleName t =
     both-parts _ _ _ _ (sym (name-push before role.RuleName t)) (sym (expressions-push before (record { role = role.RuleName; token = t }) ∙ add-zero (expressions_in before)))
 seen_of-push before (role.ExprStart depth) t =
     both-parts _ _ _ _ (sym (name-push before (role.ExprStart depth) t)) (sym (expressions-push before (record { role = role.ExprStart depth; token = t })))
+seen_of-push before role.BoundStart t =
+    both-parts _ _ _ _ (sym (name-push before role.BoundStart t)) (sym (expressions-push before (record { role = role.BoundStart; token = t }) ∙ add-zero (expressions_in before)))
 seen_of-push before role.SizeNumber t =
     both-parts _ _ _ _ (sym (name-push before role.SizeNumber t)) (sym (expressions-push before (record { role = role.SizeNumber; token = t }) ∙ add-zero (expressions_in before)))
 

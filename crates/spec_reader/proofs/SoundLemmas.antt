@@ -1,11 +1,13 @@
 -- A reader stays sound over a token that it takes.
-use Rattle.std.specs.Prelude.{if◌then◌else◌}
+use Rattle.std.specs.Prelude.{if◌then◌else◌, is_some}
+use Rattle.std.specs.Option.{option_map_or}
 use Rattle.std.proofs.Common.{◌≡◌, ℕ, ◌+◌, Bool, true, false, ◌||◌, nat_le, Option, Some, None, List, [], ◌∷◌, ◌++◌, length, reverse, refl, sym, ap, ◌∙◌, subst, arith}
 use Rattle.std.specs.List.{list_all}
 use Rattle.std.proofs.lemmas.Bool.Decides.{nat_tests}
 use Rattle.std.proofs.lemmas.List.{reverse-append, length-reverse}
 use Rattle.spec_syntax.specs.Word.{is_word}
 use Rattle.spec_syntax.specs.Expression.{Epsilon, Atom, Name}
+use Rattle.spec_syntax.specs.declared.statement.Universe.{Universe}
 use Rattle.spec_syntax.specs.Rules.{is_same_name}
 use Rattle.spec_reader.specs.declared.token.Sign.TheVariants as sign
 use Rattle.spec_reader.specs.declared.token.Keyword.TheVariants as word
@@ -14,23 +16,27 @@ use Rattle.spec_reader.specs.declared.table.Item.TheVariants as item
 use Rattle.spec_reader.specs.declared.table.Head.{Head}
 use Rattle.spec_reader.specs.declared.table.Head.TheVariants as head
 use Rattle.spec_reader.specs.declared.table.Former.TheVariants as former
+use Rattle.spec_reader.specs.declared.table.Comparison.{Comparison}
 use Rattle.spec_reader.specs.declared.table.Role.{Role}
 use Rattle.spec_reader.specs.declared.table.Role.TheVariants as role
 use Rattle.spec_reader.specs.declared.draft.Command.{Command}
 use Rattle.spec_reader.specs.declared.draft.Command.TheVariants as command
+use Rattle.spec_reader.specs.declared.draft.Bound.{Bound}
 use Rattle.spec_reader.specs.declared.draft.Compound.{Compound}
 use Rattle.spec_reader.specs.declared.draft.Draft.{Draft}
 use Rattle.spec_reader.specs.declared.seen.Seen.{Seen}
 use Rattle.spec_reader.specs.Tokens as token
-use Rattle.spec_reader.specs.Tokens.{Token, text_of, value, is_spelled}
+use Rattle.spec_reader.specs.Tokens.{Token, text_of, is_spelled}
 use Rattle.spec_reader.specs.Limits.{is_deeper, repeats}
+use Rattle.spec_reader.specs.Meaning.{turned}
 use Rattle.spec_reader.specs.Seen.{reason_in, seen_after}
-use Rattle.spec_reader.specs.Table.{is_mark, is_reserved, is_name, head_of, arguments, step, is_shallow, role_of, Takes}
-use Rattle.spec_reader.specs.Drafts.{put, close, act, begin_at, sized, is_filled, is_ready, built}
+use Rattle.spec_reader.specs.Table.{is_mark, is_reserved, is_name, is_number, head_of, comparison_of, universe_of, arguments, only_if, step, is_shallow, role_of, Takes}
+use Rattle.spec_reader.specs.Drafts.{put, close, rebound, number_in, act, begin_at, is_filled, is_ready, built}
 use Rattle.spec_reader.specs.Machine.{are_distinct, is_sound_seen, is_sound}
 use Rattle.spec_reader.specs.declared.read.Reader.{Reader}
-use Rattle.spec_reader.proofs.LimitLemmas.{reason-none, fresh-name, only_if-true}
-use Rattle.spec_reader.proofs.DraftLemmas.{Holds, begun-holds, put-holds, close-holds, put-filled, close-filled, ready-filled}
+use Rattle.spec_reader.proofs.LimitLemmas.{reason-none, fresh-name}
+use Rattle.spec_reader.proofs.TokenTests.{reserved-is}
+use Rattle.spec_reader.proofs.DraftLemmas.{Holds, begun-holds, begun-container-holds, put-holds, close-holds, put-filled, close-filled, ready-filled, rebound-ready, rebound-holds}
 
 abbrev are_shallow : Option (List Item) → Bool
 are_shallow None = true
@@ -42,6 +48,7 @@ arguments-shallow depth (Some head.Epsilon) low = refl
 arguments-shallow depth (Some head.Atom) low = refl
 arguments-shallow depth (Some head.Name) low = refl
 arguments-shallow depth (Some (head.Former former)) low = grind (arith, nat_tests, low)
+arguments-shallow depth (Some (head.Container k)) low = grind (arith, nat_tests, low)
 
 -- what is expected after a token is no deeper than is looked at
 pub step-shallow : (i : Item) (t : Token) → is_shallow i ≡ true → is_deeper 32 (role_of i) ≡ false → are_shallow (step i t) ≡ true
@@ -60,16 +67,75 @@ begin-ready depth t (Some head.Atom) rest draft = ready-filled rest (put Atom dr
 begin-ready depth t (Some head.Name) rest draft = ready-filled rest (put (Name (text_of t)) draft).pending (put-filled (Name (text_of t)) draft)
 begin-ready depth t (Some (head.Former former.Union)) rest draft = refl
 begin-ready depth t (Some (head.Former former.Prod)) rest draft = refl
+begin-ready depth t (Some (head.Container k)) rest draft = refl
 
-sized-pending : (t : Token) (draft : Draft) → (sized t draft).pending ≡ draft.pending
-sized-pending (token.Number digits) draft = refl
-sized-pending _ draft = refl
+-- where the innermost expression has an argument, any row may follow
+filled-ready : (found : Option (List Item)) (rest : List Item) (pending : List Compound) → is_filled pending ≡ true → row_ready found rest pending ≡ true
+filled-ready None rest pending filled = refl
+filled-ready (Some row) rest pending filled = ready-filled (row ++ rest) pending filled
+
+closing-filled : (b : Bool) (draft : Draft) → is_filled draft.pending ≡ true → is_filled (if b then close draft else draft).pending ≡ true
+closing-filled true draft filled = close-filled draft filled
+closing-filled false draft filled = filled
+
+only_if-ready : (b : Bool) (row rest : List Item) (pending : List Compound) → is_ready (row ++ rest) pending ≡ true → row_ready (only_if b row) rest pending ≡ true
+only_if-ready true row rest pending ready = ready
+only_if-ready false row rest pending ready = refl
+
+either-ready : (first second : Bool) (row other rest : List Item) (pending : List Compound) → is_ready (row ++ rest) pending ≡ true → is_ready (other ++ rest) pending ≡ true
+    → row_ready (if first then Some row else only_if second other) rest pending ≡ true
+either-ready true second row other rest pending ready also = ready
+either-ready false second row other rest pending ready also = only_if-ready second other rest pending also
+
+-- the bound of the innermost expression is changed by what was found, if anything was
+abbrev changed : {A : Type 0} → (A → Bound → Bound) → Option A → Draft → Draft
+changed change found draft = option_map_or (λ x. record draft { pending = rebound (change x) draft.pending }) found draft
+
+changed-ready : {A : Type 0} (change : A → Bound → Bound) (found : Option A) (items : List Item) (draft : Draft) → is_ready items draft.pending ≡ true
+    → is_ready items (changed change found draft).pending ≡ true
+changed-ready change None items draft ready = ready
+changed-ready change (Some x) items draft ready = rebound-ready (change x) items draft.pending ready
+
+abbrev with_number : ℕ → Bound → Bound
+with_number number bound = record bound { number = number }
+
+abbrev with_comparison : Comparison → Bound → Bound
+with_comparison comparison bound = record bound { comparison = comparison }
+
+abbrev with_turned : Comparison → Bound → Bound
+with_turned comparison bound = record bound { comparison = turned comparison }
+
+named-pending : (found : Option Universe) (draft : Draft) → (option_map_or (λ named. record draft { universe = named }) found draft).pending ≡ draft.pending
+named-pending None draft = refl
+named-pending (Some named) draft = refl
+
+sized-pending : (found : Option ℕ) (draft : Draft) → (option_map_or (λ size. record draft { size = size }) found draft).pending ≡ draft.pending
+sized-pending None draft = refl
+sized-pending (Some size) draft = refl
 
 -- the table can go on after a token
 pub step-ready : (i : Item) (t : Token) (rest : List Item) (draft : Draft) → is_ready (i ∷ rest) draft.pending ≡ true → row_ready (step i t) rest (act i t draft).pending ≡ true
+step-ready item.Universe t rest draft ready =
+    only_if-ready (is_some (universe_of t)) [] rest (act item.Universe t draft).pending (ap (is_ready rest) (named-pending (universe_of t) draft) ∙ ready)
+step-ready item.RightOfZ t rest draft ready = filled-ready (step item.RightOfZ t) rest (put Atom draft).pending (put-filled Atom draft)
 step-ready (item.Expr depth) t rest draft ready = begin-ready depth t (head_of t) rest draft
-step-ready (item.MoreExprs depth) t rest draft ready = grind (arith, ready-filled rest (close draft).pending (close-filled draft))
-step-ready item.Size t rest draft ready = rw (sized-pending t draft) (grind (arith, ready))
+step-ready (item.MoreExprs depth) t rest draft ready =
+    filled-ready (step (item.MoreExprs depth) t) rest (act (item.MoreExprs depth) t draft).pending (closing-filled (is_mark sign.CloseParen t) draft ready)
+step-ready item.ContainerEnd t rest draft ready =
+    filled-ready (step item.ContainerEnd t) rest (act item.ContainerEnd t draft).pending (closing-filled (is_mark sign.CloseParen t) draft ready)
+step-ready item.BoundEnd t rest draft ready =
+    filled-ready (step item.BoundEnd t) rest (act item.BoundEnd t draft).pending (closing-filled (is_mark sign.CloseParen t) draft ready)
+step-ready item.Bound t rest draft ready =
+    let after : is_ready rest (act item.Bound t draft).pending ≡ true = changed-ready with_number (number_in t) rest draft ready in
+    either-ready (is_reserved word.Card t) (is_number t) _ _ rest (act item.Bound t draft).pending after after
+step-ready item.Comparison t rest draft ready =
+    only_if-ready (is_some (comparison_of t)) [] rest (act item.Comparison t draft).pending (changed-ready with_comparison (comparison_of t) rest draft ready)
+step-ready item.TurnedComparison t rest draft ready =
+    only_if-ready (is_some (comparison_of t)) [] rest (act item.TurnedComparison t draft).pending (changed-ready with_turned (comparison_of t) rest draft ready)
+step-ready item.CardNumber t rest draft ready =
+    only_if-ready (is_number t) [] rest (act item.CardNumber t draft).pending (changed-ready with_number (number_in t) rest draft ready)
+step-ready item.Size t rest draft ready =
+    only_if-ready (is_number t) [] rest (act item.Size t draft).pending (ap (is_ready rest) (sized-pending (number_in t) draft) ∙ ready)
 step-ready _ t rest draft ready = grind (arith, ready)
 
 abbrev weight : Role → ℕ
@@ -88,10 +154,19 @@ begin-holds n t (Some head.Epsilon) draft holds = put-holds n Epsilon draft hold
 begin-holds n t (Some head.Atom) draft holds = put-holds n Atom draft holds refl
 begin-holds n t (Some head.Name) draft holds = put-holds n (Name (text_of t)) draft holds refl
 begin-holds n t (Some (head.Former former)) draft holds = begun-holds n former draft holds
+begin-holds n t (Some (head.Container k)) draft holds = begun-container-holds n k draft holds
 
-sized-holds : (n : ℕ) (t : Token) (draft : Draft) → Holds n draft → Holds (n + 0) (sized t draft)
-sized-holds n (token.Number digits) draft holds = same-holds n (record draft { size = value digits }) (record { rights = holds.rights; pending = holds.pending; count = holds.count })
-sized-holds n _ draft holds = same-holds n draft holds
+sized-holds : (n : ℕ) (found : Option ℕ) (draft : Draft) → Holds n draft → Holds (n + 0) (option_map_or (λ size. record draft { size = size }) found draft)
+sized-holds n None draft holds = same-holds n draft holds
+sized-holds n (Some size) draft holds = same-holds n (record draft { size = size }) (record { rights = holds.rights; pending = holds.pending; count = holds.count })
+
+named-holds : (n : ℕ) (found : Option Universe) (draft : Draft) → Holds n draft → Holds (n + 0) (option_map_or (λ named. record draft { universe = named }) found draft)
+named-holds n None draft holds = same-holds n draft holds
+named-holds n (Some named) draft holds = same-holds n (record draft { universe = named }) (record { rights = holds.rights; pending = holds.pending; count = holds.count })
+
+changed-holds : {A : Type 0} (n : ℕ) (change : A → Bound → Bound) (found : Option A) (draft : Draft) → Holds n draft → Holds (n + 0) (changed change found draft)
+changed-holds n change None draft holds = same-holds n draft holds
+changed-holds n change (Some x) draft holds = same-holds n (record draft { pending = rebound (change x) draft.pending }) (rebound-holds n (change x) draft holds)
 
 command-holds : (n : ℕ) (b : Bool) (command : Command) (draft : Draft) → Holds n draft → Holds (n + 0) (if b then record draft { command = Some command } else draft)
 command-holds n true command draft holds = same-holds n (record draft { command = Some command }) (record { rights = holds.rights; pending = holds.pending; count = holds.count })
@@ -105,9 +180,17 @@ closing-holds n false draft holds filled = same-holds n draft holds
 pub act-holds : (n : ℕ) (i : Item) (t : Token) (rest : List Item) (draft : Draft) → Holds n draft → is_ready (i ∷ rest) draft.pending ≡ true → Holds (n + weight (role_of i)) (act i t draft)
 act-holds n item.Statement t rest draft holds ready = command-holds n (is_reserved word.AllStructs t) command.AllStructs draft holds
 act-holds n item.Symbol t rest draft holds ready = same-holds n (record draft { symbol = text_of t }) (record { rights = holds.rights; pending = holds.pending; count = holds.count })
+act-holds n item.Universe t rest draft holds ready = named-holds n (universe_of t) draft holds
+act-holds n item.RightOfZ t rest draft holds ready = put-holds n Atom draft holds refl
 act-holds n (item.Expr depth) t rest draft holds ready = begin-holds n t (head_of t) draft holds
 act-holds n (item.MoreExprs depth) t rest draft holds ready = closing-holds n (is_mark sign.CloseParen t) draft holds ready
-act-holds n item.Size t rest draft holds ready = sized-holds n t draft holds
+act-holds n item.ContainerEnd t rest draft holds ready = closing-holds n (is_mark sign.CloseParen t) draft holds ready
+act-holds n item.BoundEnd t rest draft holds ready = closing-holds n (is_mark sign.CloseParen t) draft holds ready
+act-holds n item.Bound t rest draft holds ready = changed-holds n with_number (number_in t) draft holds
+act-holds n item.Comparison t rest draft holds ready = changed-holds n with_comparison (comparison_of t) draft holds
+act-holds n item.TurnedComparison t rest draft holds ready = changed-holds n with_turned (comparison_of t) draft holds
+act-holds n item.CardNumber t rest draft holds ready = changed-holds n with_number (number_in t) draft holds
+act-holds n item.Size t rest draft holds ready = sized-holds n (number_in t) draft holds
 act-holds n _ t rest draft holds ready = same-holds n draft holds
 
 same-sym : (a b : List ℕ) → is_same_name a b ≡ is_same_name b a
@@ -128,17 +211,17 @@ words-push : (names : List (List ℕ)) (text : List ℕ) → list_all is_word na
 words-push [] text all here = grind (arith, here)
 words-push (name ∷ names) text all here = grind (arith, words-push names text)
 
-name-step : (seen : Seen) (t : Token) → is_name t ≡ true → is_spelled t ≡ true → is_sound_seen seen ≡ true → reason_in seen role.RuleName t ≡ None → is_sound_seen (seen_after role.RuleName t seen) ≡ true
-name-step seen (token.Name text) named spelled sound none =
-    let passes = reason-none (reverse seen.names) seen.expressions role.RuleName (token.Name text) none in
-    let fresh : repeats (reverse seen.names) text ≡ false = fresh-name (reverse seen.names) (token.Name text) passes.repeated in
-    let turned : reverse (text ∷ seen.names) ≡ reverse seen.names ++ text ∷ [] = reverse-append (text ∷ []) seen.names in
+name-step : (seen : Seen) (t : Token) → is_word (text_of t) ≡ true → is_sound_seen seen ≡ true → reason_in seen role.RuleName t ≡ None → is_sound_seen (seen_after role.RuleName t seen) ≡ true
+name-step seen t spelled sound none =
+    let text = text_of t in
+    let passes = reason-none (reverse seen.names) seen.expressions role.RuleName t none in
+    let fresh : repeats (reverse seen.names) text ≡ false = fresh-name (reverse seen.names) t passes.repeated in
+    let joined : reverse (text ∷ seen.names) ≡ reverse seen.names ++ text ∷ [] = reverse-append (text ∷ []) seen.names in
     let distinct : are_distinct (reverse seen.names ++ text ∷ []) ≡ true = distinct-push (reverse seen.names) text (grind (arith, sound)) fresh in
     let words : list_all is_word (reverse seen.names ++ text ∷ []) ≡ true = words-push (reverse seen.names) text (grind (arith, sound)) spelled in
     let few : nat_le (length (text ∷ seen.names)) 64 ≡ true = grind (arith, nat_tests, passes.rules, length-reverse seen.names) in
     let small : nat_le seen.expressions 128 ≡ true = grind (arith, sound) in
-    rw turned (grind (arith, distinct, words, few, small))
-name-step seen _ named spelled sound none = cc
+    rw joined (grind (arith, distinct, words, few, small))
 
 expr-step : (seen : Seen) (depth : ℕ) (t : Token) → is_sound_seen seen ≡ true → reason_in seen (role.ExprStart depth) t ≡ None → is_sound_seen (seen_after (role.ExprStart depth) t seen) ≡ true
 expr-step seen depth t sound none =
@@ -146,13 +229,29 @@ expr-step seen depth t sound none =
     let small : nat_le (seen.expressions + 1) 128 ≡ true = grind (arith, nat_tests, passes.nodes) in
     grind (arith, sound, small)
 
-only-name : (t : Token) (row : List Item) → step item.Rule t ≡ Some row → is_name t ≡ true
-only-name t row e = only_if-true (is_name t) _ row e
+name-word : (t : Token) → is_name t ≡ true → is_spelled t ≡ true → is_word (text_of t) ≡ true
+name-word (token.Name text) named spelled = spelled
+name-word _ named spelled = cc
+
+z-word : (t : Token) → is_reserved word.Z t ≡ true → is_word (text_of t) ≡ true
+z-word t z = ap (λ u. is_word (text_of u)) (reserved-is word.Z t z)
+
+either-fits : (first second : Bool) (row other found : List Item) (X : Type 0) → (first ≡ true → X) → (second ≡ true → X)
+    → (if first then Some row else only_if second other) ≡ Some found → X
+either-fits true second row other found X f g fits = f refl
+either-fits false true row other found X f g fits = g refl
+either-fits false false row other found X f g fits = cc
+
+-- the left side of a rule is spelled as a word
+rule-word : (t : Token) (row : List Item) → step item.Rule t ≡ Some row → is_spelled t ≡ true → is_word (text_of t) ≡ true
+rule-word t row fits spelled =
+    either-fits (is_name t) (is_reserved word.Z t) _ _ row (is_word (text_of t) ≡ true) (λ named. name-word t named spelled) (z-word t) fits
 
 -- what was seen stays within the limits
 pub seen-step : (seen : Seen) (i : Item) (t : Token) (row : List Item) → step i t ≡ Some row → is_spelled t ≡ true → is_sound_seen seen ≡ true → reason_in seen (role_of i) t ≡ None
     → is_sound_seen (seen_after (role_of i) t seen) ≡ true
-seen-step seen item.Rule t row fits spelled sound none = name-step seen t (only-name t row fits) spelled sound none
+seen-step seen item.Rule t row fits spelled sound none = name-step seen t (rule-word t row fits spelled) sound none
+seen-step seen item.RightOfZ t row fits spelled sound none = expr-step seen 1 t sound none
 seen-step seen (item.Expr depth) t row fits spelled sound none = expr-step seen depth t sound none
 seen-step seen _ t row fits spelled sound none = sound
 

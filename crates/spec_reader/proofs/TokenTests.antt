@@ -3,6 +3,9 @@ use Rattle.std.proofs.Common.{◌≡◌, ℕ, Bool, true, false, cond, Option, S
 use Rattle.std.specs.Str.{bytes_eq}
 use Rattle.std.specs.Prelude.{find}
 use Rattle.std.proofs.lemmas.Slice.Eq.{bytes_eq-Decides}
+use Rattle.spec_syntax.specs.declared.expr.Kind.TheVariants as kind
+use Rattle.spec_syntax.specs.declared.statement.Universe.{Universe}
+use Rattle.spec_syntax.specs.declared.statement.Universe.TheVariants as universe
 use Rattle.spec_reader.specs.declared.token.Sign.{Sign}
 use Rattle.spec_reader.specs.declared.token.Sign.TheVariants as sign
 use Rattle.spec_reader.specs.declared.token.Keyword.{Keyword}
@@ -10,8 +13,10 @@ use Rattle.spec_reader.specs.declared.token.Keyword.TheVariants as word
 use Rattle.spec_reader.specs.declared.table.Head.{Head}
 use Rattle.spec_reader.specs.declared.table.Head.TheVariants as head
 use Rattle.spec_reader.specs.declared.table.Former.TheVariants as former
+use Rattle.spec_reader.specs.declared.table.Comparison.{Comparison}
+use Rattle.spec_reader.specs.declared.table.Comparison.TheVariants as compare
 use Rattle.spec_reader.specs.Tokens.{Token, Mark, Reserved, Name, Number, text_of, sign_text, signs, keyword_text, keyword_of}
-use Rattle.spec_reader.specs.Table.{is_mark, is_reserved, is_name, is_number, head_of}
+use Rattle.spec_reader.specs.Table.{is_mark, is_reserved, is_name, is_number, head_of, comparison_of, universe_of}
 
 sign_back : List ℕ → Option Sign
 sign_back text = find (λ s. bytes_eq (sign_text s) text) signs
@@ -121,21 +126,69 @@ Begins (Some head.Atom) t = (t ≡ Reserved word.Atom) ⊎ (t ≡ Reserved word.
 Begins (Some head.Name) t = t ≡ Name (text_of t)
 Begins (Some (head.Former former.Union)) t = t ≡ Reserved word.Union
 Begins (Some (head.Former former.Prod)) t = t ≡ Reserved word.Prod
+Begins (Some (head.Container kind.Sequence)) t = t ≡ Reserved word.Sequence
+Begins (Some (head.Container _)) t = ⊥
 
-head-tests : (epsilon atom z name union prod : Bool) (t : Token)
+head-tests : (epsilon atom z name union prod sequence : Bool) (t : Token)
     → (epsilon ≡ true → t ≡ Reserved word.Epsilon) → (atom ≡ true → t ≡ Reserved word.Atom) → (z ≡ true → t ≡ Reserved word.Z)
     → (name ≡ true → t ≡ Name (text_of t)) → (union ≡ true → t ≡ Reserved word.Union) → (prod ≡ true → t ≡ Reserved word.Prod)
+    → (sequence ≡ true → t ≡ Reserved word.Sequence)
     → Begins (cond epsilon (Some head.Epsilon) (cond atom (Some head.Atom) (cond z (Some head.Atom) (cond name (Some head.Name)
-    (cond union (Some (head.Former former.Union)) (cond prod (Some (head.Former former.Prod)) None)))))) t
-head-tests true _ _ _ _ _ t e a z n u p = e refl
-head-tests false true _ _ _ _ t e a z n u p = inl (a refl)
-head-tests false false true _ _ _ t e a z n u p = inr (z refl)
-head-tests false false false true _ _ t e a z n u p = n refl
-head-tests false false false false true _ t e a z n u p = u refl
-head-tests false false false false false true t e a z n u p = p refl
-head-tests false false false false false false t e a z n u p = tt
+    (cond union (Some (head.Former former.Union)) (cond prod (Some (head.Former former.Prod)) (cond sequence (Some (head.Container kind.Sequence)) None))))))) t
+head-tests true _ _ _ _ _ _ t e a z n u p s = e refl
+head-tests false true _ _ _ _ _ t e a z n u p s = inl (a refl)
+head-tests false false true _ _ _ _ t e a z n u p s = inr (z refl)
+head-tests false false false true _ _ _ t e a z n u p s = n refl
+head-tests false false false false true _ _ t e a z n u p s = u refl
+head-tests false false false false false true _ t e a z n u p s = p refl
+head-tests false false false false false false true t e a z n u p s = s refl
+head-tests false false false false false false false t e a z n u p s = tt
 
 pub head-begins : (t : Token) → Begins (head_of t) t
 head-begins t =
-    head-tests (is_reserved word.Epsilon t) (is_reserved word.Atom t) (is_reserved word.Z t) (is_name t) (is_reserved word.Union t) (is_reserved word.Prod t) t
+    head-tests (is_reserved word.Epsilon t) (is_reserved word.Atom t) (is_reserved word.Z t) (is_name t) (is_reserved word.Union t) (is_reserved word.Prod t)
+    (is_reserved word.Sequence t) t
     (reserved-is word.Epsilon t) (reserved-is word.Atom t) (reserved-is word.Z t) (name-is t) (reserved-is word.Union t) (reserved-is word.Prod t)
+    (reserved-is word.Sequence t)
+
+-- the sign that a comparison is
+abbrev pub Compares : Option Comparison → Token → Type 0
+Compares None t = Unit {0}
+Compares (Some compare.Equal) t = t ≡ Mark sign.Equals
+Compares (Some compare.AtMost) t = t ≡ Mark sign.AtMost
+Compares (Some compare.AtLeast) t = t ≡ Mark sign.AtLeast
+
+comparison-tests : (equal at_most at_least : Bool) (t : Token)
+    → (equal ≡ true → t ≡ Mark sign.Equals) → (at_most ≡ true → t ≡ Mark sign.AtMost) → (at_least ≡ true → t ≡ Mark sign.AtLeast)
+    → Compares (cond equal (Some compare.Equal) (cond at_most (Some compare.AtMost) (cond at_least (Some compare.AtLeast) None))) t
+comparison-tests true _ _ t e m l = e refl
+comparison-tests false true _ t e m l = m refl
+comparison-tests false false true t e m l = l refl
+comparison-tests false false false t e m l = tt
+
+pub comparison-is : (t : Token) → Compares (comparison_of t) t
+comparison-is t =
+    comparison-tests (is_mark sign.Equals t) (is_mark sign.AtMost t) (is_mark sign.AtLeast t) t
+    (mark-is sign.Equals t) (mark-is sign.AtMost t) (mark-is sign.AtLeast t)
+
+-- the word that names a universe
+abbrev pub Names : Option Universe → Token → Type 0
+Names None t = Unit {0}
+Names (Some universe.Labelled) t = (t ≡ Reserved word.Labelled) ⊎ (t ≡ Reserved word.Labeled)
+Names (Some universe.Unlabelled) t = (t ≡ Reserved word.Unlabelled) ⊎ (t ≡ Reserved word.Unlabeled)
+
+universe-tests : (labelled labeled unlabelled unlabeled : Bool) (t : Token)
+    → (labelled ≡ true → t ≡ Reserved word.Labelled) → (labeled ≡ true → t ≡ Reserved word.Labeled)
+    → (unlabelled ≡ true → t ≡ Reserved word.Unlabelled) → (unlabeled ≡ true → t ≡ Reserved word.Unlabeled)
+    → Names (cond labelled (Some universe.Labelled) (cond labeled (Some universe.Labelled)
+    (cond unlabelled (Some universe.Unlabelled) (cond unlabeled (Some universe.Unlabelled) None)))) t
+universe-tests true _ _ _ t a b c d = inl (a refl)
+universe-tests false true _ _ t a b c d = inr (b refl)
+universe-tests false false true _ t a b c d = inl (c refl)
+universe-tests false false false true t a b c d = inr (d refl)
+universe-tests false false false false t a b c d = tt
+
+pub universe-is : (t : Token) → Names (universe_of t) t
+universe-is t =
+    universe-tests (is_reserved word.Labelled t) (is_reserved word.Labeled t) (is_reserved word.Unlabelled t) (is_reserved word.Unlabeled t) t
+    (reserved-is word.Labelled t) (reserved-is word.Labeled t) (reserved-is word.Unlabelled t) (reserved-is word.Unlabeled t)

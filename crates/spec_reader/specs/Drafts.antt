@@ -1,33 +1,47 @@
 -- What is built of a statement while its tokens are read.
-use Rattle.std.specs.Prelude.{ℕ, suc, ◌+◌, Bool, true, ◌&&◌, nat_le, List, [], ◌∷◌, ◌++◌, Option, Some, None, if◌then◌else◌, sum_by}
+use Rattle.std.specs.Prelude.{ℕ, suc, ◌+◌, Bool, true, ◌&&◌, nat_le, is_some, List, [], ◌∷◌, ◌++◌, Option, Some, None, if◌then◌else◌, sum_by}
+use Rattle.std.specs.Option.{option_map_or}
 use Rattle.std.specs.List.{list_all}
-use Rattle.spec_syntax.specs.Expression.{Expression, Epsilon, Atom, Name, Union, Prod, expressions_of, nodes, nodes_of_all, has_some, is_well_formed, are_well_formed}
+use Rattle.spec_syntax.specs.Expression.{Expression, Epsilon, Atom, Name, Union, Prod, Many, expressions_of, nodes, nodes_of_all, has_some, is_well_formed, are_well_formed}
+use Rattle.spec_syntax.specs.declared.statement.Universe.TheVariants as universe
 use Rattle.spec_reader.specs.declared.token.Sign.TheVariants as sign
 use Rattle.spec_reader.specs.declared.token.Keyword.TheVariants as word
 use Rattle.spec_reader.specs.declared.table.Item.{Item}
 use Rattle.spec_reader.specs.declared.table.Item.TheVariants as item
 use Rattle.spec_reader.specs.declared.table.Head.{Head}
 use Rattle.spec_reader.specs.declared.table.Head.TheVariants as head
-use Rattle.spec_reader.specs.declared.table.Former.{Former}
 use Rattle.spec_reader.specs.declared.table.Former.TheVariants as former
 use Rattle.spec_reader.specs.declared.draft.Command.TheVariants as command
+use Rattle.spec_reader.specs.declared.table.Comparison.{Comparison}
+use Rattle.spec_reader.specs.declared.table.Comparison.TheVariants as compare
+use Rattle.spec_reader.specs.declared.draft.Bound.{Bound}
 use Rattle.spec_reader.specs.declared.draft.Compound.{Compound}
+use Rattle.spec_reader.specs.declared.draft.Compound.TheVariants.{Several, Container}
 use Rattle.spec_reader.specs.declared.draft.Draft.{Draft}
 use Rattle.spec_reader.specs.Tokens as token
 use Rattle.spec_reader.specs.Tokens.{Token, value, text_of}
-use Rattle.spec_reader.specs.Table.{is_mark, is_reserved, head_of}
+use Rattle.spec_reader.specs.Meaning.{card_by, turned}
+use Rattle.spec_reader.specs.Table.{is_mark, is_reserved, head_of, comparison_of, universe_of}
 
--- nothing is built yet
+-- nothing is built yet, and a universe that isn't written is unlabelled
 abbrev pub empty : Draft
-empty = record { command = None; symbol = []; rights = []; pending = []; size = 0 }
+empty = record { command = None; symbol = []; universe = universe.Unlabelled; rights = []; pending = []; size = 0 }
 
-abbrev pub formed : Former → List Expression → Expression
-formed former.Union arguments = Union (expressions_of arguments)
-formed former.Prod arguments = Prod (expressions_of arguments)
+-- the bound that every number of components keeps
+abbrev pub unbounded : Bound
+unbounded = record { comparison = compare.AtLeast; number = 0 }
+
+-- the expression that a compound is with what was read of it; a container without an element is none
+abbrev pub formed : Compound → Option Expression
+formed (Several former.Union arguments) = Some (Union (expressions_of arguments))
+formed (Several former.Prod arguments) = Some (Prod (expressions_of arguments))
+formed (Container kind None bound) = None
+formed (Container kind (Some element) bound) = Some (Many kind element (card_by bound.comparison bound.number))
 
 abbrev pub put_on : Expression → List Compound → Draft → Draft
 put_on e [] draft = record draft { rights = e ∷ draft.rights; pending = [] }
-put_on e (o ∷ pending) draft = record draft { pending = record o { arguments = o.arguments ++ e ∷ [] } ∷ pending }
+put_on e (Several former arguments ∷ pending) draft = record draft { pending = Several former (arguments ++ e ∷ []) ∷ pending }
+put_on e (Container kind element bound ∷ pending) draft = record draft { pending = Container kind (Some e) bound ∷ pending }
 
 -- a whole expression is an argument of the innermost one that is not, and where all are it is a right side
 abbrev pub put : Expression → Draft → Draft
@@ -35,51 +49,88 @@ put e draft = put_on e draft.pending draft
 
 abbrev pub close_on : List Compound → Draft → Draft
 close_on [] draft = draft
-close_on (o ∷ pending) draft = put (formed o.former o.arguments) (record draft { pending = pending })
+close_on (compound ∷ pending) draft = option_map_or (λ e. put e (record draft { pending = pending })) (formed compound) (record draft { pending = pending })
 
 -- the innermost expression that is not whole becomes whole
 abbrev pub close : Draft → Draft
 close draft = close_on draft.pending draft
+
+-- the innermost expression that is not whole, where it is a container, has another bound
+abbrev pub rebound : (Bound → Bound) → List Compound → List Compound
+rebound change (Container kind element bound ∷ pending) = Container kind element (change bound) ∷ pending
+rebound change pending = pending
+
+-- its bound has this comparison
+abbrev pub compared : Comparison → Draft → Draft
+compared comparison draft = record draft { pending = rebound (λ bound. record bound { comparison = comparison }) draft.pending }
+
+-- its bound has this number
+abbrev pub numbered : ℕ → Draft → Draft
+numbered number draft = record draft { pending = rebound (λ bound. record bound { number = number }) draft.pending }
 
 abbrev pub begin_at : Token → Option Head → Draft → Draft
 begin_at token None draft = draft
 begin_at token (Some head.Epsilon) draft = put Epsilon draft
 begin_at token (Some head.Atom) draft = put Atom draft
 begin_at token (Some head.Name) draft = put (Name (text_of token)) draft
-begin_at token (Some (head.Former former)) draft = record draft { pending = record { former = former; arguments = [] } ∷ draft.pending }
+begin_at token (Some (head.Former former)) draft = record draft { pending = Several former [] ∷ draft.pending }
+begin_at token (Some (head.Container kind)) draft = record draft { pending = Container kind None unbounded ∷ draft.pending }
 
-abbrev pub sized : Token → Draft → Draft
-sized (token.Number digits) draft = record draft { size = value digits }
-sized _ draft = draft
+-- the number that a token writes
+abbrev pub number_in : Token → Option ℕ
+number_in (token.Number digits) = Some (value digits)
+number_in _ = None
 
 -- what is built with a token that an item takes
 abbrev pub act : Item → Token → Draft → Draft
 act item.Statement token draft = if is_reserved word.AllStructs token then record draft { command = Some command.AllStructs } else draft
 act item.Symbol token draft = record draft { symbol = text_of token }
+act item.Universe token draft = option_map_or (λ named. record draft { universe = named }) (universe_of token) draft
+act item.RightOfZ token draft = put Atom draft
 act (item.Expr depth) token draft = begin_at token (head_of token) draft
 act (item.MoreExprs depth) token draft = if is_mark sign.CloseParen token then close draft else draft
-act item.Size token draft = sized token draft
+act item.ContainerEnd token draft = if is_mark sign.CloseParen token then close draft else draft
+act item.BoundEnd token draft = if is_mark sign.CloseParen token then close draft else draft
+act item.Bound token draft = option_map_or (λ number. numbered number draft) (number_in token) draft
+act item.Comparison token draft = option_map_or (λ comparison. compared comparison draft) (comparison_of token) draft
+act item.TurnedComparison token draft = option_map_or (λ comparison. compared (turned comparison) draft) (comparison_of token) draft
+act item.CardNumber token draft = option_map_or (λ number. numbered number draft) (number_in token) draft
+act item.Size token draft = option_map_or (λ number. record draft { size = number }) (number_in token) draft
 act _ token draft = draft
 
 -- has the innermost expression that is not whole an argument, if there is one
 abbrev pub is_filled : List Compound → Bool
 is_filled [] = true
-is_filled (o ∷ pending) = has_some (expressions_of o.arguments)
+is_filled (Several former arguments ∷ pending) = has_some (expressions_of arguments)
+is_filled (Container kind element bound ∷ pending) = is_some element
 
 -- can the innermost expression that is not whole be closed where the next thing about expressions is to go on or to close
 abbrev pub is_ready : List Item → List Compound → Bool
 is_ready [] pending = true
+is_ready (item.RightOfZ ∷ items) pending = true
 is_ready (item.Expr depth ∷ items) pending = true
 is_ready (item.MoreExprs depth ∷ items) pending = is_filled pending
+is_ready (item.ContainerEnd ∷ items) pending = is_filled pending
+is_ready (item.BoundEnd ∷ items) pending = is_filled pending
 is_ready (_ ∷ items) pending = is_ready items pending
+
+-- are the arguments of a compound so far well formed
+abbrev pub is_well_begun : Compound → Bool
+is_well_begun (Several former arguments) = are_well_formed (expressions_of arguments)
+is_well_begun (Container kind element bound) = option_map_or is_well_formed element true
+
+-- the number of expressions in a compound so far, itself counted
+abbrev pub begun : Compound → ℕ
+begun (Several former arguments) = suc (nodes_of_all (expressions_of arguments))
+begun (Container kind element bound) = suc (option_map_or nodes element 0)
 
 -- the number of expressions in a draft
 abbrev pub built : Draft → ℕ
-built draft = sum_by nodes draft.rights + sum_by (λ o. suc (nodes_of_all (expressions_of o.arguments))) draft.pending
+built draft = sum_by nodes draft.rights + sum_by begun draft.pending
 
 -- are the expressions of a draft well formed, and at most so many
 abbrev pub is_draft : ℕ → Draft → Bool
 is_draft expressions draft =
     list_all is_well_formed draft.rights
-    && list_all (λ o. are_well_formed (expressions_of o.arguments)) draft.pending
+    && list_all is_well_begun draft.pending
     && nat_le (built draft) expressions

@@ -1,13 +1,15 @@
 -- The grammar of statements: how each part of a statement is written as tokens.
 --
 -- Each token has a role, which says what it is in the statement as far as a limit asks.
-use Rattle.std.specs.Prelude.{ℕ, suc, List, [], ◌∷◌, ◌++◌}
+use Rattle.std.specs.Prelude.{ℕ, suc, List, [], ◌∷◌, ◌++◌, Option, Some, None}
 use Rattle.spec_reader.specs.declared.token.Sign.{Sign}
-use Rattle.spec_reader.specs.declared.token.Sign.TheVariants.{Equals, Semicolon, Comma, OpenParen, CloseParen, OpenBracket, CloseBracket, OpenBrace, CloseBrace}
+use Rattle.spec_reader.specs.declared.token.Sign.TheVariants.{Equals, AtMost, AtLeast, Semicolon, Comma, OpenParen, CloseParen, OpenBracket, CloseBracket, OpenBrace, CloseBrace}
 use Rattle.spec_reader.specs.declared.token.Keyword.{Keyword}
 use Rattle.spec_reader.specs.declared.token.Keyword.TheVariants as keyword
 use Rattle.spec_reader.specs.declared.table.Role.{Role}
-use Rattle.spec_reader.specs.declared.table.Role.TheVariants.{Plain, RuleName, ExprStart, SizeNumber}
+use Rattle.spec_reader.specs.declared.table.Role.TheVariants.{Plain, RuleName, ExprStart, BoundStart, SizeNumber}
+use Rattle.spec_reader.specs.declared.table.Comparison.{Comparison}
+use Rattle.spec_reader.specs.declared.table.Comparison.TheVariants as compare
 use Rattle.spec_reader.specs.Tokens.{Token, Mark, Reserved, Name, Number}
 
 -- a token and its role
@@ -24,9 +26,9 @@ word k = record { role = Plain; token = Reserved k }
 abbrev pub name : List ℕ → Marked
 name text = record { role = Plain; token = Name text }
 
--- the name of a rule on its left side
-abbrev pub rule_name : List ℕ → Marked
-rule_name text = record { role = RuleName; token = Name text }
+-- the left side of a rule
+abbrev pub rule_name : Token → Marked
+rule_name token = record { role = RuleName; token = token }
 
 abbrev pub size : List ℕ → Marked
 size digits = record { role = SizeNumber; token = Number digits }
@@ -34,6 +36,31 @@ size digits = record { role = SizeNumber; token = Number digits }
 -- the first token of an expression at a depth: a right side has depth 1, an argument one more
 abbrev pub starts : ℕ → Token → Marked
 starts depth token = record { role = ExprStart depth; token = token }
+
+-- the first token of a bound
+abbrev pub bound_starts : Token → Marked
+bound_starts token = record { role = BoundStart; token = token }
+
+-- "=" | "<=" | ">="
+abbrev pub comparison : Comparison → Marked
+comparison compare.Equal = sign Equals
+comparison compare.AtMost = sign AtMost
+comparison compare.AtLeast = sign AtLeast
+
+-- a bound as it is written, from either side
+pub data BoundTree : Type 0 where
+  CardFirst : (compared : Comparison) (number : List ℕ) → BoundTree
+  NumberFirst : (number : List ℕ) (compared : Comparison) → BoundTree
+
+-- bound = "card" ( "=" | "<=" | ">=" ) NUMBER | NUMBER ( "=" | "<=" | ">=" ) "card"
+abbrev pub bound : BoundTree → List Marked
+bound (CardFirst compared digits) = bound_starts (Reserved keyword.Card) ∷ comparison compared ∷ size digits ∷ []
+bound (NumberFirst digits compared) = bound_starts (Number digits) ∷ comparison compared ∷ word keyword.Card ∷ []
+
+-- [ "," bound ] ")"
+abbrev pub container_end : Option BoundTree → List Marked
+container_end None = sign CloseParen ∷ []
+container_end (Some b) = sign Comma ∷ bound b ++ sign CloseParen ∷ []
 
 mutual
   -- an expression as it is written
@@ -44,12 +71,13 @@ mutual
     Named : (name : List ℕ) → ExprTree
     Union : (first : ExprTree) (others : ExprTrees) → ExprTree
     Prod : (first : ExprTree) (others : ExprTrees) → ExprTree
+    Sequence : (element : ExprTree) (bound : Option BoundTree) → ExprTree
 
   pub data ExprTrees : Type 0 where
     no_more : ExprTrees
     more : ExprTree → ExprTrees → ExprTrees
 
--- expr = "Epsilon" | "Atom" | "Z" | NAME | ( "Union" | "Prod" ) "(" expr { "," expr } ")"
+-- expr = "Epsilon" | "Atom" | "Z" | NAME | ( "Union" | "Prod" ) "(" expr { "," expr } ")" | "Sequence" "(" expr [ "," bound ] ")"
 abbrev mutual
   pub expr : ℕ → ExprTree → List Marked
   expr depth Epsilon = starts depth (Reserved keyword.Epsilon) ∷ []
@@ -58,19 +86,31 @@ abbrev mutual
   expr depth (Named text) = starts depth (Name text) ∷ []
   expr depth (Union first others) = starts depth (Reserved keyword.Union) ∷ sign OpenParen ∷ expr (suc depth) first ++ more_exprs (suc depth) others
   expr depth (Prod first others) = starts depth (Reserved keyword.Prod) ∷ sign OpenParen ∷ expr (suc depth) first ++ more_exprs (suc depth) others
+  expr depth (Sequence element b) = starts depth (Reserved keyword.Sequence) ∷ sign OpenParen ∷ expr (suc depth) element ++ container_end b
 
   -- { "," expr } ")"
   pub more_exprs : ℕ → ExprTrees → List Marked
   more_exprs depth no_more = sign CloseParen ∷ []
   more_exprs depth (more e es) = sign Comma ∷ expr depth e ++ more_exprs depth es
 
-pub record RuleTree : Type 0 where
-  pub name : List ℕ
-  pub right : ExprTree
+-- the right side of the rule for Z: "Z" | "Atom"
+pub data AtomTree : Type 0 where
+  ByZ : AtomTree
+  ByAtom : AtomTree
 
--- rule = NAME "=" expr
+abbrev pub right_of_z : AtomTree → List Marked
+right_of_z ByZ = starts 1 (Reserved keyword.Z) ∷ []
+right_of_z ByAtom = starts 1 (Reserved keyword.Atom) ∷ []
+
+-- a rule as it is written, with a name or with Z on its left side
+pub data RuleTree : Type 0 where
+  Rule : (name : List ℕ) (right : ExprTree) → RuleTree
+  RuleOfZ : (right : AtomTree) → RuleTree
+
+-- rule = NAME "=" expr | "Z" "=" ( "Z" | "Atom" )
 abbrev pub rule : RuleTree → List Marked
-rule r = rule_name r.name ∷ sign Equals ∷ expr 1 r.right
+rule (Rule text right) = rule_name (Name text) ∷ sign Equals ∷ expr 1 right
+rule (RuleOfZ right) = rule_name (Reserved keyword.Z) ∷ sign Equals ∷ right_of_z right
 
 -- { "," rule } "}"
 abbrev pub more_rules : List RuleTree → List Marked
@@ -85,13 +125,41 @@ pub record RulesTree : Type 0 where
 abbrev pub rules : RulesTree → List Marked
 rules rs = sign OpenBrace ∷ rule rs.first ++ more_rules rs.others
 
-pub record ClassTree : Type 0 where
-  pub symbol : List ℕ
-  pub rules : RulesTree
+-- the symbol of a class: NAME | "Z"
+pub data SymbolTree : Type 0 where
+  SymbolName : (name : List ℕ) → SymbolTree
+  SymbolZ : SymbolTree
 
--- class = "[" NAME "," rules "," "unlabelled" "]"
+abbrev pub symbol : SymbolTree → List Marked
+symbol (SymbolName text) = name text ∷ []
+symbol SymbolZ = word keyword.Z ∷ []
+
+-- universe = "labelled" | "unlabelled" | "labeled" | "unlabeled"
+pub data UniverseTree : Type 0 where
+  Labelled : UniverseTree
+  Unlabelled : UniverseTree
+  Labeled : UniverseTree
+  Unlabeled : UniverseTree
+
+abbrev pub universe : UniverseTree → List Marked
+universe Labelled = word keyword.Labelled ∷ []
+universe Unlabelled = word keyword.Unlabelled ∷ []
+universe Labeled = word keyword.Labeled ∷ []
+universe Unlabeled = word keyword.Unlabeled ∷ []
+
+-- [ "," universe ] "]"
+abbrev pub class_end : Option UniverseTree → List Marked
+class_end None = sign CloseBracket ∷ []
+class_end (Some u) = sign Comma ∷ universe u ++ sign CloseBracket ∷ []
+
+pub record ClassTree : Type 0 where
+  pub symbol : SymbolTree
+  pub rules : RulesTree
+  pub universe : Option UniverseTree
+
+-- class = "[" ( NAME | "Z" ) "," rules [ "," universe ] "]"
 abbrev pub class : ClassTree → List Marked
-class c = sign OpenBracket ∷ name c.symbol ∷ sign Comma ∷ rules c.rules ++ sign Comma ∷ word keyword.Unlabelled ∷ sign CloseBracket ∷ []
+class c = sign OpenBracket ∷ symbol c.symbol ++ (sign Comma ∷ rules c.rules ++ class_end c.universe)
 
 pub data FormTree : Type 0 where
   AllStructs : (class : ClassTree) (size : List ℕ) → FormTree

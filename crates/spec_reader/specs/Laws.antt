@@ -1,6 +1,6 @@
 -- Laws of what pieces read as.
-use Rattle.std.specs.Prelude.{◌≡◌, ◌≤◌, ℕ, IsTrue, Result, List}
-use Rattle.spec_syntax.specs.Rules.{is_spec}
+use Rattle.std.specs.Prelude.{◌≡◌, ◌≤◌, ℕ, IsTrue, Bool, Result, List}
+use Rattle.spec_syntax.specs.Rules.{Rules, is_spec, are_sequences}
 use Rattle.spec_syntax.specs.declared.statement.RulesRef.{RulesRef}
 use Rattle.spec_syntax.specs.declared.statement.RulesRef.TheVariants as rules_ref
 use Rattle.spec_syntax.specs.declared.statement.ClassRef.{ClassRef}
@@ -30,28 +30,33 @@ SomeAnswer = (start : Place) (piece : List ℕ) → (answer : Result Statement R
 abbrev pub NeverBoth : Type 0
 NeverBoth = (start : Place) (piece : List ℕ) (read : Statement) (why : ReadRefused) → ReadsAs piece read → IsFault start piece why → ⊥
 
--- are written rules a specification
-abbrev pub RulesKeep : RulesRef → Type 0
-RulesKeep (rules_ref.Written rules) = IsTrue (is_spec rules)
-RulesKeep (rules_ref.Bound _) = Unit {0}
+-- do the rules pass the test, where they are written out
+abbrev pub RulesPass : (Rules → Bool) → RulesRef → Type 0
+RulesPass test (rules_ref.Written rules) = IsTrue (test rules)
+RulesPass test (rules_ref.Bound _) = Unit {0}
 
-abbrev pub ClassKeeps : ClassRef → Type 0
-ClassKeeps (class_ref.Written _ rules _) = RulesKeep rules
-ClassKeeps (class_ref.Bound _) = Unit {0}
+abbrev pub ClassPasses : (Rules → Bool) → ClassRef → Type 0
+ClassPasses test (class_ref.Written _ rules _) = RulesPass test rules
+ClassPasses test (class_ref.Bound _) = Unit {0}
 
-abbrev pub JobKeeps : Job → Type 0
-JobKeeps (job.Grammar class _) = ClassKeeps class
-JobKeeps (job.Ready _ _ _) = Unit {0}
+abbrev pub JobPasses : (Rules → Bool) → Job → Type 0
+JobPasses test (job.Grammar class _) = ClassPasses test class
+JobPasses test (job.Ready _ _ _) = Unit {0}
 
+-- do the rules that are written in a form pass the test
+abbrev pub FormPasses : (Rules → Bool) → Form → Type 0
+FormPasses test (form.Rules _ rules) = IsTrue (test rules)
+FormPasses test (form.Class _ class) = ClassPasses test class
+FormPasses test (form.Iterate _ work _) = JobPasses test work
+FormPasses test (form.Count work) = JobPasses test work
+FormPasses test (form.List work) = JobPasses test work
+FormPasses test (form.Draw work) = JobPasses test work
+FormPasses test (form.Equations rules _ _) = RulesPass test rules
+FormPasses test _ = Unit {0}
+
+-- are the rules that are written in a form a specification
 abbrev pub FormKeeps : Form → Type 0
-FormKeeps (form.Rules _ rules) = IsTrue (is_spec rules)
-FormKeeps (form.Class _ class) = ClassKeeps class
-FormKeeps (form.Iterate _ work _) = JobKeeps work
-FormKeeps (form.Count work) = JobKeeps work
-FormKeeps (form.List work) = JobKeeps work
-FormKeeps (form.Draw work) = JobKeeps work
-FormKeeps (form.Equations rules _ _) = RulesKeep rules
-FormKeeps _ = Unit {0}
+FormKeeps = FormPasses is_spec
 
 -- the rules in a statement that is read are a specification
 abbrev pub ReadingsKeep : Type 0
@@ -71,3 +76,11 @@ FormIsSmall _ = Unit {0}
 -- the size in a statement that is read is at most 1000
 abbrev pub ReadingsAreSmall : Type 0
 ReadingsAreSmall = (piece : List ℕ) (read : Statement) → ReadsAs piece read → FormIsSmall read.form
+
+-- stands no container but a Sequence in the rules that are written in a form
+abbrev pub FormHasSequences : Form → Type 0
+FormHasSequences = FormPasses are_sequences
+
+-- each container in a statement that is read is a Sequence
+abbrev pub ReadingsHaveSequences : Type 0
+ReadingsHaveSequences = (piece : List ℕ) (read : Statement) → ReadsAs piece read → FormHasSequences read.form

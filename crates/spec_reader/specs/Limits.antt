@@ -3,7 +3,7 @@ use Rattle.std.specs.Prelude.{ℕ, Bool, true, false, ◌&&◌, nat_le, nat_lt, 
 use Rattle.spec_reader.specs.declared.refusal.Which.{Which}
 use Rattle.spec_reader.specs.declared.refusal.Which.TheVariants as which
 use Rattle.spec_reader.specs.declared.table.Role.{Role}
-use Rattle.spec_reader.specs.declared.table.Role.TheVariants.{RuleName, ExprStart, SizeNumber}
+use Rattle.spec_reader.specs.declared.table.Role.TheVariants.{RuleName, ExprStart, BoundStart, SizeNumber}
 use Rattle.spec_reader.specs.Tokens.{Token, Name, Number, value, text_of}
 use Rattle.std.specs.List.{list_any}
 use Rattle.spec_syntax.specs.Rules.{is_same_name}
@@ -18,7 +18,9 @@ abbrev pub is_above : ℕ → Token → Bool
 is_above n (Number digits) = nat_lt n (value digits)
 is_above n _ = false
 
+-- may the token be a size, or the number of a bound
 abbrev pub is_size : Role → Bool
+is_size BoundStart = true
 is_size SizeNumber = true
 is_size _ = false
 

@@ -1,7 +1,6 @@
 -- Reading tokens one by one, by the table: what is expected, what was seen, and what is built.
 use Rattle.std.specs.Prelude.{ℕ, ◌≡◌, ◌≤◌, Bool, true, false, ◌&&◌, not, nat_le, Option, Some, None, Result, Ok, Err, List, [], ◌∷◌, ◌++◌, reverse, length, zip}
 use Rattle.std.specs.List.{list_all}
-use Rattle.spec_syntax.specs.declared.statement.Universe.TheVariants as universe
 use Rattle.spec_syntax.specs.declared.statement.RulesRef.TheVariants as rules_ref
 use Rattle.spec_syntax.specs.declared.statement.ClassRef.TheVariants as class_ref
 use Rattle.spec_syntax.specs.declared.statement.Job.TheVariants as job
@@ -62,7 +61,7 @@ rules_from names rights = zip (reverse names) (reverse rights)
 abbrev pub form_of : Option Command → Reader → Form
 form_of None reader = form.Empty
 form_of (Some command.AllStructs) reader =
-    form.List (job.Grammar (class_ref.Written reader.draft.symbol (rules_ref.Written (rules_from reader.seen.names reader.draft.rights)) universe.Unlabelled) reader.draft.size)
+    form.List (job.Grammar (class_ref.Written reader.draft.symbol (rules_ref.Written (rules_from reader.seen.names reader.draft.rights)) reader.draft.universe) reader.draft.size)
 
 -- the statement that is built where nothing is expected any more
 abbrev pub finished : List Item → ℕ → Reader → Result Statement Fault

@@ -1,6 +1,9 @@
 -- The table of the grammar: what a token may be where something is expected, and what is expected after it.
-use Rattle.std.specs.Prelude.{ℕ, suc, Bool, true, false, List, [], ◌∷◌, ◌++◌, ◌≡◌, nat_le, Option, Some, None, if◌then◌else◌}
+use Rattle.std.specs.Prelude.{ℕ, suc, Bool, true, false, List, [], ◌∷◌, ◌++◌, ◌≡◌, nat_le, is_some, Option, Some, None, if◌then◌else◌}
 use Rattle.std.specs.Str.{bytes_eq}
+use Rattle.spec_syntax.specs.declared.expr.Kind.TheVariants as kind
+use Rattle.spec_syntax.specs.declared.statement.Universe.{Universe}
+use Rattle.spec_syntax.specs.declared.statement.Universe.TheVariants as universe
 use Rattle.spec_reader.specs.declared.token.Sign.{Sign}
 use Rattle.spec_reader.specs.declared.token.Sign.TheVariants as sign
 use Rattle.spec_reader.specs.declared.token.Keyword.{Keyword}
@@ -12,6 +15,8 @@ use Rattle.spec_reader.specs.declared.table.Item.TheVariants as item
 use Rattle.spec_reader.specs.declared.table.Head.{Head}
 use Rattle.spec_reader.specs.declared.table.Head.TheVariants as head
 use Rattle.spec_reader.specs.declared.table.Former.TheVariants as former
+use Rattle.spec_reader.specs.declared.table.Comparison.{Comparison}
+use Rattle.spec_reader.specs.declared.table.Comparison.TheVariants as compare
 use Rattle.spec_reader.specs.Tokens.{Token, Mark, Reserved, Name, Number, sign_text, keyword_text}
 
 abbrev pub is_mark : Sign → Token → Bool
@@ -38,7 +43,23 @@ head_of token =
     else (if is_reserved word.Z token then Some head.Atom
     else (if is_name token then Some head.Name
     else (if is_reserved word.Union token then Some (head.Former former.Union)
-    else (if is_reserved word.Prod token then Some (head.Former former.Prod) else None)))))
+    else (if is_reserved word.Prod token then Some (head.Former former.Prod)
+    else (if is_reserved word.Sequence token then Some (head.Container kind.Sequence) else None))))))
+
+-- the comparison that a sign writes
+abbrev pub comparison_of : Token → Option Comparison
+comparison_of token =
+    if is_mark sign.Equals token then Some compare.Equal
+    else (if is_mark sign.AtMost token then Some compare.AtMost
+    else (if is_mark sign.AtLeast token then Some compare.AtLeast else None))
+
+-- the universe that a word names
+abbrev pub universe_of : Token → Option Universe
+universe_of token =
+    if is_reserved word.Labelled token then Some universe.Labelled
+    else (if is_reserved word.Labeled token then Some universe.Labelled
+    else (if is_reserved word.Unlabelled token then Some universe.Unlabelled
+    else (if is_reserved word.Unlabeled token then Some universe.Unlabelled else None)))
 
 abbrev pub arguments : ℕ → Option Head → Option (List Item)
 arguments depth None = None
@@ -47,9 +68,14 @@ arguments depth (Some head.Atom) = Some []
 arguments depth (Some head.Name) = Some []
 arguments depth (Some (head.Former former.Union)) = Some (item.Mark sign.OpenParen ∷ item.Expr (suc depth) ∷ item.MoreExprs (suc depth) ∷ [])
 arguments depth (Some (head.Former former.Prod)) = Some (item.Mark sign.OpenParen ∷ item.Expr (suc depth) ∷ item.MoreExprs (suc depth) ∷ [])
+arguments depth (Some (head.Container _)) = Some (item.Mark sign.OpenParen ∷ item.Expr (suc depth) ∷ item.ContainerEnd ∷ [])
 
 abbrev pub only_if : Bool → List Item → Option (List Item)
 only_if fits row = if fits then Some row else None
+
+-- a comma and what is expected after it, or the sign that closes
+abbrev pub more_or_end : Sign → Token → List Item → Option (List Item)
+more_or_end close token row = if is_mark sign.Comma token then Some row else only_if (is_mark close token) []
 
 -- what is expected after the token, in place of the item that takes it; None where the item can't take it
 abbrev pub step : Item → Token → Option (List Item)
@@ -60,14 +86,26 @@ step item.Statement token =
     ∷ item.Mark sign.CloseParen ∷ item.Mark sign.Semicolon ∷ [])
 step item.Class token =
     only_if (is_mark sign.OpenBracket token)
-    (item.Symbol ∷ item.Mark sign.Comma ∷ item.Rules ∷ item.Mark sign.Comma ∷ item.Reserved word.Unlabelled ∷ item.Mark sign.CloseBracket ∷ [])
-step item.Symbol token = only_if (is_name token) []
+    (item.Symbol ∷ item.Mark sign.Comma ∷ item.Rules ∷ item.ClassEnd ∷ [])
+step item.Symbol token = if is_name token then Some [] else only_if (is_reserved word.Z token) []
+step item.ClassEnd token = more_or_end sign.CloseBracket token (item.Universe ∷ item.Mark sign.CloseBracket ∷ [])
+step item.Universe token = only_if (is_some (universe_of token)) []
 step item.Rules token = only_if (is_mark sign.OpenBrace token) (item.Rule ∷ item.MoreRules ∷ [])
-step item.Rule token = only_if (is_name token) (item.Mark sign.Equals ∷ item.Expr 1 ∷ [])
-step item.MoreRules token = if is_mark sign.Comma token then Some (item.Rule ∷ item.MoreRules ∷ []) else only_if (is_mark sign.CloseBrace token) []
+step item.Rule token =
+    if is_name token then Some (item.Mark sign.Equals ∷ item.Expr 1 ∷ [])
+    else only_if (is_reserved word.Z token) (item.Mark sign.Equals ∷ item.RightOfZ ∷ [])
+step item.RightOfZ token = if is_reserved word.Z token then Some [] else only_if (is_reserved word.Atom token) []
+step item.MoreRules token = more_or_end sign.CloseBrace token (item.Rule ∷ item.MoreRules ∷ [])
 step (item.Expr depth) token = arguments depth (head_of token)
-step (item.MoreExprs depth) token =
-    if is_mark sign.Comma token then Some (item.Expr depth ∷ item.MoreExprs depth ∷ []) else only_if (is_mark sign.CloseParen token) []
+step (item.MoreExprs depth) token = more_or_end sign.CloseParen token (item.Expr depth ∷ item.MoreExprs depth ∷ [])
+step item.ContainerEnd token = more_or_end sign.CloseParen token (item.Bound ∷ item.BoundEnd ∷ [])
+step item.BoundEnd token = only_if (is_mark sign.CloseParen token) []
+step item.Bound token =
+    if is_reserved word.Card token then Some (item.Comparison ∷ item.CardNumber ∷ [])
+    else only_if (is_number token) (item.TurnedComparison ∷ item.Reserved word.Card ∷ [])
+step item.Comparison token = only_if (is_some (comparison_of token)) []
+step item.TurnedComparison token = only_if (is_some (comparison_of token)) []
+step item.CardNumber token = only_if (is_number token) []
 step item.Size token = only_if (is_number token) []
 step (item.Mark sign) token = only_if (is_mark sign token) []
 step (item.Reserved keyword) token = only_if (is_reserved keyword token) []
@@ -75,7 +113,10 @@ step (item.Reserved keyword) token = only_if (is_reserved keyword token) []
 -- the role of the token that an item takes
 abbrev pub role_of : Item → Role
 role_of item.Rule = role.RuleName
+role_of item.RightOfZ = role.ExprStart 1
 role_of (item.Expr depth) = role.ExprStart depth
+role_of item.Bound = role.BoundStart
+role_of item.CardNumber = role.SizeNumber
 role_of item.Size = role.SizeNumber
 role_of _ = role.Plain
 

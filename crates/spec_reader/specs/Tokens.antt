@@ -21,11 +21,6 @@ pub data Token : Type 0 where
   Text : (text : List ℕ) → Token
   Stray : Token
 
--- the bytes of a name
-abbrev pub text_of : Token → List ℕ
-text_of (Name text) = text
-text_of _ = []
-
 -- how a sign is spelled
 abbrev pub sign_text : Sign → List ℕ
 sign_text sign.Assign = codes ":="
@@ -89,6 +84,12 @@ keyword_text word.Subset = codes "Subset"
 keyword_text word.Permutation = codes "Permutation"
 keyword_text word.Partition = codes "Partition"
 keyword_text word.Composition = codes "Composition"
+
+-- the bytes of a word
+abbrev pub text_of : Token → List ℕ
+text_of (Reserved keyword) = keyword_text keyword
+text_of (Name text) = text
+text_of _ = []
 
 -- the reserved words
 abbrev pub keywords : List Keyword

@@ -3,13 +3,14 @@ ghost use Rattle.std.specs.Prelude.{◌≡◌, OnOk, IsTrue, false, true};
 ghost use Rattle.spec_reader.specs.TokenView.{plain};
 ghost use Rattle.spec_reader.specs.Tokens.{is_spelled};
 ghost use Rattle.spec_reader.specs.Limits.{is_size, is_above};
+ghost use Rattle.spec_reader.specs.Meaning.{card_by};
 ghost use Rattle.spec_reader.specs.Table.{role_of, head_of};
-ghost use Rattle.spec_reader.specs.Drafts.{put, close, act, begin_at, empty};
+ghost use Rattle.spec_reader.specs.Drafts.{unbounded, number_in, put, close, compared, numbered, act, begin_at, empty};
 
 use crate::stack::Stack;
-use crate::table::{Former, Head, Item};
+use crate::table::{Comparison, Former, Head, Item};
 use crate::token::{Keyword, Sign, Token, number};
-use spec_syntax::{Expr, ExprShape, Exprs, Name};
+use spec_syntax::{Card, Expr, ExprShape, Exprs, Kind, Name, Universe};
 use std::alloc::{AllocError, Global};
 
 /// What a statement asks for.
@@ -19,11 +20,52 @@ pub(crate) enum Command {
     AllStructs,
 }
 
+/// A bound on the number of components: how that is compared with a number, which is at most 1000.
+#[derive(Clone, Copy, Debug)]
+pub(crate) struct Bound {
+    pub(crate) comparison: Comparison,
+    pub(crate) number: u32,
+}
+
+impl Bound {
+    /// The bound that every number of components keeps.
+    fn none() -> Bound
+        ensures { result ≡ unbounded }
+    {
+        Bound {
+            comparison: Comparison::AtLeast,
+            number: 0,
+        }
+    }
+
+    /// The least and the greatest number of components.
+    fn card(self) -> Card
+        ensures { result ≡ card_by self.comparison self.number }
+    {
+        match self.comparison {
+            Comparison::Equal => Card {
+                low: self.number,
+                high: Some(self.number),
+            },
+            Comparison::AtMost => Card {
+                low: 0,
+                high: Some(self.number),
+            },
+            Comparison::AtLeast => Card {
+                low: self.number,
+                high: None,
+            },
+        }
+    }
+}
+
 /// An expression whose arguments are being read.
 #[derive(Drop)]
-pub(crate) struct Compound {
-    pub(crate) former: Former,
-    pub(crate) arguments: Exprs,
+pub(crate) enum Compound {
+    /// A Union or a Prod, with its arguments so far.
+    Several(Former, Exprs),
+    /// A container, with its element where that is whole, and its bound so far.
+    Container(Kind, Option<Expr>, Bound),
 }
 
 /// What is built of a statement so far.
@@ -32,11 +74,25 @@ pub(crate) struct Draft {
     pub(crate) command: Option<Command>,
     /// The symbol of the class.
     pub(crate) symbol: Name,
+    /// The universe of the class, unlabelled where none is written.
+    pub(crate) universe: Universe,
     /// The right sides that are whole, the last at the top.
     pub(crate) rights: Stack<Expr>,
     /// The expressions that aren't whole, the innermost at the top.
     pub(crate) pending: Stack<Compound>,
     pub(crate) size: u32,
+}
+
+/// The number that a token writes.
+fn number_in(token: &Token<'_>) -> Option<u32>
+    requires spelled { IsTrue (is_spelled (plain token.now)) }
+    requires small { is_above 1000 (plain token.now) ≡ false }
+    ensures { result ≡ number_in (plain token.now) }
+{
+    match token {
+        Token::Number(digits) => number(digits).map(|n| n as u32),
+        _ => None,
+    }
 }
 
 impl Draft {
@@ -47,6 +103,7 @@ impl Draft {
         Draft {
             command: None,
             symbol: Name::new(alloc),
+            universe: Universe::Unlabelled,
             rights: Stack::new(alloc),
             pending: Stack::new(alloc),
             size: 0,
@@ -59,25 +116,71 @@ impl Draft {
     {
         match self.pending.pop() {
             None => self.rights.push(expr),
-            Some(mut compound) => {
-                compound.arguments.push(expr)?;
-                self.pending.push(compound)
+            Some(Compound::Several(former, mut arguments)) => {
+                arguments.push(expr)?;
+                self.pending.push(Compound::Several(former, arguments))
+            }
+            Some(Compound::Container(kind, _, bound)) => {
+                let container = Compound::Container(kind, Some(expr), bound);
+                self.pending.push(container)
             }
         }
     }
 
     /// The innermost expression that is not whole becomes whole.
-    fn close(&mut self) -> Result<(), AllocError>
+    fn close(&mut self, alloc: Global) -> Result<(), AllocError>
         ensures { OnOk result (self.new ≡ close self.old) }
     {
-        let Some(compound) = self.pending.pop() else {
-            return Ok(());
-        };
-        let shape = match compound.former {
-            Former::Union => ExprShape::Union(compound.arguments),
-            Former::Prod => ExprShape::Prod(compound.arguments),
+        let shape = match self.pending.pop() {
+            None => return Ok(()),
+            Some(Compound::Several(Former::Union, arguments)) => ExprShape::Union(arguments),
+            Some(Compound::Several(Former::Prod, arguments)) => ExprShape::Prod(arguments),
+            Some(Compound::Container(kind, element, bound)) => {
+                let Some(element) = element else {
+                    return Ok(());
+                };
+                ExprShape::Many(kind, Box::new(alloc, element)?, bound.card())
+            }
         };
         self.put(Expr { shape })
+    }
+
+    /// The bound of the innermost expression that is not whole, where it is a container, has this comparison.
+    fn compare(&mut self, comparison: Comparison) -> Result<(), AllocError>
+        ensures { OnOk result (self.new ≡ compared comparison self.old) }
+    {
+        match self.pending.pop() {
+            None => Ok(()),
+            Some(Compound::Several(former, arguments)) => {
+                self.pending.push(Compound::Several(former, arguments))
+            }
+            Some(Compound::Container(kind, element, bound)) => {
+                let bound = Bound {
+                    comparison,
+                    number: bound.number,
+                };
+                self.pending.push(Compound::Container(kind, element, bound))
+            }
+        }
+    }
+
+    /// The bound of the innermost expression that is not whole, where it is a container, has this number.
+    fn set_number(&mut self, number: u32) -> Result<(), AllocError>
+        ensures { OnOk result (self.new ≡ numbered number self.old) }
+    {
+        match self.pending.pop() {
+            None => Ok(()),
+            Some(Compound::Several(former, arguments)) => {
+                self.pending.push(Compound::Several(former, arguments))
+            }
+            Some(Compound::Container(kind, element, bound)) => {
+                let bound = Bound {
+                    comparison: bound.comparison,
+                    number,
+                };
+                self.pending.push(Compound::Container(kind, element, bound))
+            }
+        }
     }
 
     /// Builds with a token that the item takes.
@@ -97,18 +200,39 @@ impl Draft {
                     self.command = Some(Command::AllStructs);
                 }
             }
-            Item::Symbol => self.symbol = Name::from_slice(alloc, token.name())?,
+            Item::Symbol => self.symbol = Name::from_slice(alloc, token.text())?,
+            Item::Universe => {
+                if let Some(universe) = token.universe() {
+                    self.universe = universe;
+                }
+            }
+            Item::RightOfZ => self.put(Expr {
+                shape: ExprShape::Atom,
+            })?,
             Item::Expr(_) => self.begin(alloc, token)?,
-            Item::MoreExprs(_) => {
+            Item::MoreExprs(_) | Item::ContainerEnd | Item::BoundEnd => {
                 if token.is_mark(Sign::CloseParen) {
-                    self.close()?;
+                    self.close(alloc)?;
+                }
+            }
+            Item::Bound | Item::CardNumber => {
+                if let Some(number) = number_in(token) {
+                    self.set_number(number)?;
+                }
+            }
+            Item::Comparison => {
+                if let Some(comparison) = token.comparison() {
+                    self.compare(comparison)?;
+                }
+            }
+            Item::TurnedComparison => {
+                if let Some(comparison) = token.comparison() {
+                    self.compare(comparison.turned())?;
                 }
             }
             Item::Size => {
-                if let Token::Number(digits) = token
-                    && let Some(size) = number(digits)
-                {
-                    self.size = size as u32;
+                if let Some(size) = number_in(token) {
+                    self.size = size;
                 }
             }
             _ => {}
@@ -124,10 +248,14 @@ impl Draft {
             None => return Ok(()),
             Some(Head::Epsilon) => ExprShape::Epsilon,
             Some(Head::Atom) => ExprShape::Atom,
-            Some(Head::Name) => ExprShape::Name(Name::from_slice(alloc, token.name())?),
+            Some(Head::Name) => ExprShape::Name(Name::from_slice(alloc, token.text())?),
             Some(Head::Former(former)) => {
                 let arguments = Exprs::new(alloc);
-                return self.pending.push(Compound { former, arguments });
+                return self.pending.push(Compound::Several(former, arguments));
+            }
+            Some(Head::Container(kind)) => {
+                let container = Compound::Container(kind, None, Bound::none());
+                return self.pending.push(container);
             }
         };
         self.put(Expr { shape })

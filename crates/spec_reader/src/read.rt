@@ -12,7 +12,7 @@ use crate::seen::Seen;
 use crate::stack::Stack;
 use crate::table::{Item, expand};
 use crate::token::{Placed, next_token};
-use spec_syntax::{ClassRef, Expr, Form, Job, Name, RulesRef, Spec, Statement, Universe};
+use spec_syntax::{ClassRef, Expr, Form, Job, Name, RulesRef, Spec, Statement};
 use std::alloc::{AllocError, Global};
 
 /// A piece that is being read.
@@ -105,7 +105,7 @@ impl Reader {
             None => Form::Empty,
             Some(Command::AllStructs) => {
                 let rules = RulesRef::Written(specification(alloc, seen.names, draft.rights)?);
-                let class = ClassRef::Written(draft.symbol, rules, Universe::Unlabelled);
+                let class = ClassRef::Written(draft.symbol, rules, draft.universe);
                 Form::List(Job::Grammar(class, draft.size))
             }
         };

@@ -22,7 +22,7 @@ pub enum Which {
     Name,
     /// A number is at most 2^128 - 1.
     Number,
-    /// A size is at most 1000.
+    /// A size is at most 1000, and so is the number of a bound.
     Size,
     /// A ground has at most 1000 items.
     Items,

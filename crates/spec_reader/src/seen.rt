@@ -15,7 +15,7 @@ use std::alloc::Global;
 /// The longest word that is read, in bytes.
 const NAME_MAX: usize = 32;
 
-/// The largest size.
+/// The largest size, and the largest number of a bound.
 const SIZE_MAX: u128 = 1000;
 
 /// The most rules of a specification.
@@ -71,7 +71,7 @@ impl Seen {
             return Some(Which::Number);
         }
         match role {
-            Role::SizeNumber if is_above(SIZE_MAX, token) => Some(Which::Size),
+            Role::SizeNumber | Role::BoundStart if is_above(SIZE_MAX, token) => Some(Which::Size),
             Role::RuleName if self.names.len() >= RULES_MAX => Some(Which::Rules),
             Role::ExprStart(_) if self.expressions >= NODES_MAX => Some(Which::Nodes),
             Role::ExprStart(depth) if depth > DEPTH_MAX => Some(Which::Depth),
@@ -110,7 +110,7 @@ impl Seen {
         }
         match role {
             Role::RuleName => {
-                let name = Name::from_slice(alloc, token.name())?;
+                let name = Name::from_slice(alloc, token.text())?;
                 if self.repeats(name.as_slice()) {
                     return Err(Fault::DuplicateRule(name));
                 }

@@ -2,10 +2,13 @@
 ghost use Rattle.std.specs.Prelude.{◌≡◌, IfOk, IsTrue};
 ghost use Rattle.spec_reader.specs.TokenView.{plain};
 ghost use Rattle.spec_reader.specs.Tokens.{text_of};
-ghost use Rattle.spec_reader.specs.Table.{head_of, step, role_of, is_shallow, Takes, is_mark, is_reserved, is_name, is_number};
+ghost use Rattle.spec_reader.specs.Meaning.{turned};
+ghost use Rattle.spec_reader.specs.Table.{head_of, comparison_of, universe_of, step, role_of, is_shallow, Takes, only_if, more_or_end, is_mark, is_reserved, is_name, is_number};
+ghost use Rattle.spec_reader.specs.declared.table.Item.TheVariants.{Statement, Class, Rule, Expr, Bound};
 
 use crate::stack::Stack;
 use crate::token::{Keyword, Sign, Token};
+use spec_syntax::{Kind, Universe};
 use std::alloc::AllocError;
 
 /// What is expected. Each item begins with one token.
@@ -17,16 +20,34 @@ pub(crate) enum Item {
     Class,
     /// The symbol of a class.
     Symbol,
+    /// A comma and a universe, or a closing bracket.
+    ClassEnd,
+    /// A universe.
+    Universe,
     /// Rules in braces.
     Rules,
     /// A rule.
     Rule,
+    /// The right side of the rule for `Z`.
+    RightOfZ,
     /// A comma and more rules, or a closing brace.
     MoreRules,
     /// An expression of this depth.
     Expr(u8),
     /// A comma and more expressions of this depth, or a closing parenthesis.
     MoreExprs(u8),
+    /// A comma and a bound, or a closing parenthesis.
+    ContainerEnd,
+    /// A closing parenthesis behind a bound.
+    BoundEnd,
+    /// A bound.
+    Bound,
+    /// The comparison behind `card`.
+    Comparison,
+    /// The comparison in front of `card`.
+    TurnedComparison,
+    /// The number behind `card` and its comparison.
+    CardNumber,
     /// A size.
     Size,
     /// This sign.
@@ -43,7 +64,9 @@ pub(crate) enum Role {
     RuleName,
     /// The first token of an expression of this depth.
     ExprStart(u8),
-    /// A size.
+    /// The first token of a bound, which is `card` or the number.
+    BoundStart,
+    /// A size, or the number that ends a bound.
     SizeNumber,
 }
 
@@ -61,6 +84,28 @@ pub(crate) enum Head {
     Atom,
     Name,
     Former(Former),
+    Container(Kind),
+}
+
+/// How the number of components is compared with a number.
+#[derive(Clone, Copy, Debug)]
+pub(crate) enum Comparison {
+    Equal,
+    AtMost,
+    AtLeast,
+}
+
+impl Comparison {
+    /// The comparison that says the same where its sides change places.
+    pub(crate) fn turned(self) -> Comparison
+        ensures { result ≡ turned self }
+    {
+        match self {
+            Comparison::Equal => Comparison::Equal,
+            Comparison::AtMost => Comparison::AtLeast,
+            Comparison::AtLeast => Comparison::AtMost,
+        }
+    }
 }
 
 impl Item {
@@ -70,8 +115,10 @@ impl Item {
     {
         match self {
             Item::Rule => Role::RuleName,
+            Item::RightOfZ => Role::ExprStart(1),
             Item::Expr(depth) => Role::ExprStart(depth),
-            Item::Size => Role::SizeNumber,
+            Item::Bound => Role::BoundStart,
+            Item::CardNumber | Item::Size => Role::SizeNumber,
             _ => Role::Plain,
         }
     }
@@ -108,13 +155,42 @@ impl Token<'_> {
         matches!(self, Token::Number(_))
     }
 
-    /// The bytes of a name.
-    pub(crate) fn name(&self) -> &[u8]
+    /// The bytes of a word.
+    pub(crate) fn text(&self) -> &[u8]
         ensures { result.now ≡ text_of (plain self.now) }
     {
         match self {
+            Token::Reserved(keyword) => keyword.text(),
             Token::Name(text) => text,
             _ => &[],
+        }
+    }
+
+    /// The comparison that a sign writes.
+    pub(crate) fn comparison(&self) -> Option<Comparison>
+        ensures { result ≡ comparison_of (plain self.now) }
+    {
+        if self.is_mark(Sign::Equals) {
+            Some(Comparison::Equal)
+        } else if self.is_mark(Sign::AtMost) {
+            Some(Comparison::AtMost)
+        } else if self.is_mark(Sign::AtLeast) {
+            Some(Comparison::AtLeast)
+        } else {
+            None
+        }
+    }
+
+    /// The universe that a word names.
+    pub(crate) fn universe(&self) -> Option<Universe>
+        ensures { result ≡ universe_of (plain self.now) }
+    {
+        if self.is_reserved(Keyword::Labelled) || self.is_reserved(Keyword::Labeled) {
+            Some(Universe::Labelled)
+        } else if self.is_reserved(Keyword::Unlabelled) || self.is_reserved(Keyword::Unlabeled) {
+            Some(Universe::Unlabelled)
+        } else {
+            None
         }
     }
 
@@ -132,10 +208,110 @@ impl Token<'_> {
             Some(Head::Former(Former::Union))
         } else if self.is_reserved(Keyword::Prod) {
             Some(Head::Former(Former::Prod))
+        } else if self.is_reserved(Keyword::Sequence) {
+            Some(Head::Container(Kind::Sequence))
         } else {
             None
         }
     }
+}
+
+/// Puts the row on the stack where the token fits, and answers whether it does.
+fn only_if(fits: bool, row: &[Item], stack: &mut Stack<Item>) -> Result<bool, AllocError>
+    ensures { IfOk result (λ taken. Takes (only_if fits row.now) taken stack.old stack.new) }
+{
+    if fits {
+        stack.push_all(row)?;
+    }
+    Ok(fits)
+}
+
+/// Puts the row on the stack where the token is a comma, and answers whether it is one or the sign that closes.
+fn more_or_end(
+    close: Sign,
+    token: &Token<'_>,
+    row: &[Item],
+    stack: &mut Stack<Item>,
+) -> Result<bool, AllocError>
+    ensures { IfOk result (λ fits. Takes (more_or_end close (plain token.now) row.now) fits stack.old stack.new) }
+{
+    if token.is_mark(Sign::Comma) {
+        stack.push_all(row)?;
+        return Ok(true);
+    }
+    Ok(token.is_mark(close))
+}
+
+/// Takes the token as the beginning of a statement.
+fn expand_statement(token: &Token<'_>, stack: &mut Stack<Item>) -> Result<bool, AllocError>
+    ensures { IfOk result (λ fits. Takes (step Statement (plain token.now)) fits stack.old stack.new) }
+{
+    if token.is_mark(Sign::Semicolon) {
+        return Ok(true);
+    }
+    let row = [
+        Item::Mark(Sign::OpenParen),
+        Item::Class,
+        Item::Mark(Sign::Comma),
+        Item::Reserved(Keyword::Size),
+        Item::Mark(Sign::Equals),
+        Item::Size,
+        Item::Mark(Sign::CloseParen),
+        Item::Mark(Sign::Semicolon),
+    ];
+    only_if(token.is_reserved(Keyword::AllStructs), &row, stack)
+}
+
+/// Takes the token as the beginning of a class.
+fn expand_class(token: &Token<'_>, stack: &mut Stack<Item>) -> Result<bool, AllocError>
+    ensures { IfOk result (λ fits. Takes (step Class (plain token.now)) fits stack.old stack.new) }
+{
+    let row = [
+        Item::Symbol,
+        Item::Mark(Sign::Comma),
+        Item::Rules,
+        Item::ClassEnd,
+    ];
+    only_if(token.is_mark(Sign::OpenBracket), &row, stack)
+}
+
+/// Takes the token as the left side of a rule.
+fn expand_rule(token: &Token<'_>, stack: &mut Stack<Item>) -> Result<bool, AllocError>
+    ensures { IfOk result (λ fits. Takes (step Rule (plain token.now)) fits stack.old stack.new) }
+{
+    if token.is_name() {
+        stack.push_all(&[Item::Mark(Sign::Equals), Item::Expr(1)])?;
+        return Ok(true);
+    }
+    let row = [Item::Mark(Sign::Equals), Item::RightOfZ];
+    only_if(token.is_reserved(Keyword::Z), &row, stack)
+}
+
+/// Takes the token as the beginning of an expression of this depth.
+fn expand_expr(depth: u8, token: &Token<'_>, stack: &mut Stack<Item>) -> Result<bool, AllocError>
+    requires { IsTrue (is_shallow (Expr depth)) }
+    ensures { IfOk result (λ fits. Takes (step (Expr depth) (plain token.now)) fits stack.old stack.new) }
+{
+    let end = match token.head() {
+        None => return Ok(false),
+        Some(Head::Epsilon | Head::Atom | Head::Name) => return Ok(true),
+        Some(Head::Former(_)) => Item::MoreExprs(depth + 1),
+        Some(Head::Container(_)) => Item::ContainerEnd,
+    };
+    stack.push_all(&[Item::Mark(Sign::OpenParen), Item::Expr(depth + 1), end])?;
+    Ok(true)
+}
+
+/// Takes the token as the beginning of a bound.
+fn expand_bound(token: &Token<'_>, stack: &mut Stack<Item>) -> Result<bool, AllocError>
+    ensures { IfOk result (λ fits. Takes (step Bound (plain token.now)) fits stack.old stack.new) }
+{
+    if token.is_reserved(Keyword::Card) {
+        stack.push_all(&[Item::Comparison, Item::CardNumber])?;
+        return Ok(true);
+    }
+    let row = [Item::TurnedComparison, Item::Reserved(Keyword::Card)];
+    only_if(token.is_number(), &row, stack)
 }
 
 /// Takes the token as the item that is expected: puts what is expected after it on the stack, and answers whether it
@@ -149,76 +325,38 @@ pub(crate) fn expand(
     ensures { IfOk result (λ fits. Takes (step item (plain token.now)) fits stack.old stack.new) }
 {
     match item {
-        Item::Statement => {
-            if token.is_mark(Sign::Semicolon) {
-                return Ok(true);
-            }
-            if !token.is_reserved(Keyword::AllStructs) {
-                return Ok(false);
-            }
-            stack.push_all(&[
-                Item::Mark(Sign::OpenParen),
-                Item::Class,
-                Item::Mark(Sign::Comma),
-                Item::Reserved(Keyword::Size),
-                Item::Mark(Sign::Equals),
-                Item::Size,
-                Item::Mark(Sign::CloseParen),
-                Item::Mark(Sign::Semicolon),
-            ])?;
+        Item::Statement => expand_statement(token, stack),
+        Item::Class => expand_class(token, stack),
+        Item::Symbol => Ok(token.is_name() || token.is_reserved(Keyword::Z)),
+        Item::ClassEnd => {
+            let row = [Item::Universe, Item::Mark(Sign::CloseBracket)];
+            more_or_end(Sign::CloseBracket, token, &row, stack)
         }
-        Item::Class => {
-            if !token.is_mark(Sign::OpenBracket) {
-                return Ok(false);
-            }
-            stack.push_all(&[
-                Item::Symbol,
-                Item::Mark(Sign::Comma),
-                Item::Rules,
-                Item::Mark(Sign::Comma),
-                Item::Reserved(Keyword::Unlabelled),
-                Item::Mark(Sign::CloseBracket),
-            ])?;
-        }
-        Item::Symbol => return Ok(token.is_name()),
+        Item::Universe => Ok(token.universe().is_some()),
         Item::Rules => {
-            if !token.is_mark(Sign::OpenBrace) {
-                return Ok(false);
-            }
-            stack.push_all(&[Item::Rule, Item::MoreRules])?;
+            let row = [Item::Rule, Item::MoreRules];
+            only_if(token.is_mark(Sign::OpenBrace), &row, stack)
         }
-        Item::Rule => {
-            if !token.is_name() {
-                return Ok(false);
-            }
-            stack.push_all(&[Item::Mark(Sign::Equals), Item::Expr(1)])?;
-        }
+        Item::Rule => expand_rule(token, stack),
+        Item::RightOfZ => Ok(token.is_reserved(Keyword::Z) || token.is_reserved(Keyword::Atom)),
         Item::MoreRules => {
-            if !token.is_mark(Sign::Comma) {
-                return Ok(token.is_mark(Sign::CloseBrace));
-            }
-            stack.push_all(&[Item::Rule, Item::MoreRules])?;
+            let row = [Item::Rule, Item::MoreRules];
+            more_or_end(Sign::CloseBrace, token, &row, stack)
         }
-        Item::Expr(depth) => match token.head() {
-            None => return Ok(false),
-            Some(Head::Epsilon | Head::Atom | Head::Name) => {}
-            Some(Head::Former(_)) => {
-                stack.push_all(&[
-                    Item::Mark(Sign::OpenParen),
-                    Item::Expr(depth + 1),
-                    Item::MoreExprs(depth + 1),
-                ])?;
-            }
-        },
+        Item::Expr(depth) => expand_expr(depth, token, stack),
         Item::MoreExprs(depth) => {
-            if !token.is_mark(Sign::Comma) {
-                return Ok(token.is_mark(Sign::CloseParen));
-            }
-            stack.push_all(&[Item::Expr(depth), Item::MoreExprs(depth)])?;
+            let row = [Item::Expr(depth), Item::MoreExprs(depth)];
+            more_or_end(Sign::CloseParen, token, &row, stack)
         }
-        Item::Size => return Ok(token.is_number()),
-        Item::Mark(sign) => return Ok(token.is_mark(sign)),
-        Item::Reserved(keyword) => return Ok(token.is_reserved(keyword)),
+        Item::ContainerEnd => {
+            let row = [Item::Bound, Item::BoundEnd];
+            more_or_end(Sign::CloseParen, token, &row, stack)
+        }
+        Item::BoundEnd => Ok(token.is_mark(Sign::CloseParen)),
+        Item::Bound => expand_bound(token, stack),
+        Item::Comparison | Item::TurnedComparison => Ok(token.comparison().is_some()),
+        Item::CardNumber | Item::Size => Ok(token.is_number()),
+        Item::Mark(sign) => Ok(token.is_mark(sign)),
+        Item::Reserved(keyword) => Ok(token.is_reserved(keyword)),
     }
-    Ok(true)
 }

@@ -8,7 +8,9 @@ use crate::{
     a_piece_reads_as_one_statement, behind, first_piece, read_statement,
     what_is_read_keeps_the_facts_of_a_specification,
 };
-use spec_syntax::{ClassRef, ExprShape, Form, Job, RulesRef, Universe};
+use spec_syntax::{
+    Card, ClassRef, ExprShape, Form, Job, Kind, RulesRef, Spec, Statement, Universe,
+};
 use std::alloc::{AllocError, Global};
 use std::process::Abort;
 use std::test::Fail;
@@ -41,6 +43,43 @@ const TOKENS: [(usize, usize); 24] = [
     (54, 55),
     (55, 56),
     (56, 57),
+];
+
+const BOUND_TEXT: &[u8] =
+    b"allstructs([Z, {Z = Atom, S = Sequence(Z, 2 >= card)}, labeled], size = 1);";
+
+/// The places of the tokens of `BOUND_TEXT`.
+const BOUND_TOKENS: [(usize, usize); 30] = [
+    (0, 10),
+    (10, 11),
+    (11, 12),
+    (12, 13),
+    (13, 14),
+    (15, 16),
+    (16, 17),
+    (18, 19),
+    (20, 24),
+    (24, 25),
+    (26, 27),
+    (28, 29),
+    (30, 38),
+    (38, 39),
+    (39, 40),
+    (40, 41),
+    (42, 43),
+    (44, 46),
+    (47, 51),
+    (51, 52),
+    (52, 53),
+    (53, 54),
+    (55, 62),
+    (62, 63),
+    (63, 64),
+    (65, 69),
+    (70, 71),
+    (72, 73),
+    (73, 74),
+    (74, 75),
 ];
 
 /// What is wanted of a piece.
@@ -127,23 +166,29 @@ fn repeat_rules(text: &mut Vec<u8>, count: usize) -> Result<(), AllocError> {
     Ok(())
 }
 
-fn each_token_of_a_statement_is_looked_at(rt: &impl Abort, alloc: Global) -> Result<(), Fail> {
-    let last = TOKENS.len() - 1;
-    for (i, (start, end)) in TOKENS.iter().copied().enumerate() {
-        assert!(rt; start < end && end <= TEXT.len());
+fn each_token_is_looked_at(
+    rt: &impl Abort,
+    alloc: Global,
+    text: &[u8],
+    tokens: &[(usize, usize)],
+) -> Result<(), Fail> {
+    assert!(rt; !tokens.is_empty() && text.len() < 1000);
+    let last = tokens.len() - 1;
+    for (i, (start, end)) in tokens.iter().copied().enumerate() {
+        assert!(rt; start < end && end <= text.len());
         let column = start as u32 + 1;
         if i > 0 {
-            let cut = outcome(rt, alloc, &TEXT[..start]);
+            let cut = outcome(rt, alloc, &text[..start]);
             assert_eq!(rt; cut, Answer::Syntax(1, column));
         }
-        let mut doubled = Vec::from_slice(alloc, &TEXT[..end])?;
+        let mut doubled = Vec::from_slice(alloc, &text[..end])?;
         doubled.push(b' ')?;
-        doubled.extend_from_slice(&TEXT[start..])?;
+        doubled.extend_from_slice(&text[start..])?;
         let second = Answer::Syntax(1, end as u32 + 2);
         assert_eq!(rt; outcome(rt, alloc, doubled.as_slice()), second);
-        let mut ended = Vec::from_slice(alloc, &TEXT[..start])?;
+        let mut ended = Vec::from_slice(alloc, &text[..start])?;
         ended.push(b';')?;
-        ended.extend_from_slice(&TEXT[end..])?;
+        ended.extend_from_slice(&text[end..])?;
         let wanted = if i == 0 {
             Answer::Syntax(1, 2)
         } else if i == last {
@@ -157,7 +202,7 @@ fn each_token_of_a_statement_is_looked_at(rt: &impl Abort, alloc: Global) -> Res
 }
 
 fn faults_stand_where_the_table_says(rt: &impl Abort, alloc: Global) -> Result<(), Fail> {
-    let rows: [(&[u8], Answer); 14] = [
+    let rows: [(&[u8], Answer); 35] = [
         (TEXT, Answer::Read),
         (b";", Answer::Read),
         (b";;", Answer::Syntax(1, 2)),
@@ -171,6 +216,90 @@ fn faults_stand_where_the_table_says(rt: &impl Abort, alloc: Global) -> Result<(
         (b"allstructs([\xc3\xa9;", Answer::Syntax(1, 13)),
         (b"allstructs([S, {S = <", Answer::Syntax(1, 21)),
         (b"allstructs([S : ", Answer::Syntax(1, 15)),
+        (
+            b"allstructs([S, {S = Sequence()}], size = 1);",
+            Answer::Syntax(1, 30),
+        ),
+        (
+            b"allstructs([S, {S = Sequence(Z, Z)}], size = 1);",
+            Answer::Syntax(1, 33),
+        ),
+        (
+            b"allstructs([S, {S = Sequence(Z, card)}], size = 1);",
+            Answer::Syntax(1, 37),
+        ),
+        (
+            b"allstructs([S, {S = Sequence(Z, card < 2)}], size = 1);",
+            Answer::Syntax(1, 38),
+        ),
+        (
+            b"allstructs([S, {S = Sequence(Z, card = card)}], size = 1);",
+            Answer::Syntax(1, 40),
+        ),
+        (
+            b"allstructs([S, {S = Sequence(Z, card = 2, Z)}], size = 1);",
+            Answer::Syntax(1, 41),
+        ),
+        (
+            b"allstructs([S, {S = Sequence(Z, 2 card)}], size = 1);",
+            Answer::Syntax(1, 35),
+        ),
+        (
+            b"allstructs([S, {S = Sequence(Z, 2 = 3)}], size = 1);",
+            Answer::Syntax(1, 37),
+        ),
+        (
+            b"allstructs([S, {S = Sequence(Z, 2)}], size = 1);",
+            Answer::Syntax(1, 34),
+        ),
+        (
+            b"allstructs([S, {S = Sequence(Z, 1 = card = 1)}], size = 1);",
+            Answer::Syntax(1, 42),
+        ),
+        (
+            b"allstructs([S, {S = Sequence(Z, card := 1)}], size = 1);",
+            Answer::Syntax(1, 38),
+        ),
+        (
+            b"allstructs([S, {S = Set(Z)}], size = 1);",
+            Answer::Syntax(1, 21),
+        ),
+        (
+            b"allstructs([S, {S = Z}, card], size = 1);",
+            Answer::Syntax(1, 25),
+        ),
+        (
+            b"allstructs([S, {S = Z},], size = 1);",
+            Answer::Syntax(1, 24),
+        ),
+        (
+            b"allstructs([S, {S = Z}, labelled, labelled], size = 1);",
+            Answer::Syntax(1, 33),
+        ),
+        (
+            b"allstructs([Atom, {S = Z}], size = 1);",
+            Answer::Syntax(1, 13),
+        ),
+        (
+            b"allstructs([S, {Z = Epsilon}], size = 1);",
+            Answer::Syntax(1, 21),
+        ),
+        (
+            b"allstructs([S, {Z = S}], size = 1);",
+            Answer::Syntax(1, 21),
+        ),
+        (
+            b"allstructs([S, {Z = Z, Atom = Z}], size = 1);",
+            Answer::Syntax(1, 24),
+        ),
+        (
+            b"allstructs([S, {Z = Z, S = Z, Z = Z}], size = 1);",
+            Answer::Duplicate,
+        ),
+        (
+            b"allstructs([S, {Z = Z, Z Z}], size = 1);",
+            Answer::Duplicate,
+        ),
         (b"c\xff;", Answer::NotText),
     ];
     for (piece, wanted) in rows {
@@ -179,7 +308,7 @@ fn faults_stand_where_the_table_says(rt: &impl Abort, alloc: Global) -> Result<(
     Ok(())
 }
 
-const CASES: [Case; 23] = [
+const CASES: [Case; 27] = [
     Case {
         name: 1,
         depth: 0,
@@ -387,6 +516,42 @@ const CASES: [Case; 23] = [
         size: b"1",
         wanted: Answer::Limit(Which::Rules),
     },
+    Case {
+        name: 1,
+        depth: 0,
+        arguments: 0,
+        after: b", Z = Z",
+        rules: 62,
+        size: b"1",
+        wanted: Answer::Read,
+    },
+    Case {
+        name: 1,
+        depth: 0,
+        arguments: 0,
+        after: b", Z = Z",
+        rules: 63,
+        size: b"1",
+        wanted: Answer::Limit(Which::Rules),
+    },
+    Case {
+        name: 1,
+        depth: 1,
+        arguments: 125,
+        after: b", Z = Atom",
+        rules: 0,
+        size: b"1",
+        wanted: Answer::Read,
+    },
+    Case {
+        name: 1,
+        depth: 1,
+        arguments: 126,
+        after: b", Z = Atom",
+        rules: 0,
+        size: b"1",
+        wanted: Answer::Limit(Which::Nodes),
+    },
 ];
 
 fn limits_are_tested_in_order(rt: &impl Abort, alloc: Global) -> Result<(), Fail> {
@@ -407,13 +572,145 @@ fn a_piece_has_at_most_65536_bytes(rt: &impl Abort, alloc: Global) -> Result<(),
     Ok(())
 }
 
+/// The statement about the sequences of `Z` with a bound.
+fn bounded(alloc: Global, bound: &[u8]) -> Result<Vec<u8>, AllocError> {
+    let mut text = Vec::from_slice(alloc, b"allstructs([S, {S = Sequence(Z")?;
+    text.extend_from_slice(bound)?;
+    text.extend_from_slice(b")}], size = 1);")?;
+    Ok(text)
+}
+
+/// The symbol, the rules and the universe of the class that a statement lists.
+fn class_of<'a>(rt: &impl Abort, statement: &'a Statement) -> (&'a [u8], &'a Spec, Universe) {
+    let Form::List(Job::Grammar(ClassRef::Written(symbol, RulesRef::Written(spec), universe), _)) =
+        &statement.form
+    else {
+        panic!(rt; "no class");
+    };
+    (symbol.as_slice(), spec, *universe)
+}
+
+fn bounds_are_read(rt: &impl Abort, alloc: Global) -> Result<(), Fail> {
+    let rows: [(&[u8], u32, Option<u32>); 12] = [
+        (b"", 0, None),
+        (b", card = 3", 3, Some(3)),
+        (b", card <= 3", 0, Some(3)),
+        (b", card >= 3", 3, None),
+        (b", 3 = card", 3, Some(3)),
+        (b", 3 <= card", 3, None),
+        (b", 3 >= card", 0, Some(3)),
+        (b", card = 0", 0, Some(0)),
+        (b", card >= 0", 0, None),
+        (b", card<=1000", 0, Some(1000)),
+        (b", 1000<=card", 1000, None),
+        (b", 007=card # seven\n", 7, Some(7)),
+    ];
+    for (bound, low, high) in rows {
+        let text = bounded(alloc, bound)?;
+        let begins = begins_piece(text.as_slice());
+        assert!(rt; begins);
+        let statement = read_statement(alloc, text.as_slice(), 1, 1)?;
+        let (_, spec, _) = class_of(rt, &statement);
+        assert!(rt; spec.rules() == 1);
+        let ExprShape::Many(kind, element, card) = &spec.right(1).shape else {
+            panic!(rt; "no container");
+        };
+        assert_eq!(rt; *kind, Kind::Sequence);
+        assert!(rt; matches!(element.shape, ExprShape::Atom));
+        assert_eq!(rt; *card, Card { low, high });
+    }
+    Ok(())
+}
+
+fn bounds_are_at_most_1000(rt: &impl Abort, alloc: Global) -> Result<(), Fail> {
+    let rows: [(&[u8], Answer); 9] = [
+        (b", card = 1001", Answer::Limit(Which::Size)),
+        (
+            b", card <= 340282366920938463463374607431768211455",
+            Answer::Limit(Which::Size),
+        ),
+        (
+            b", card >= 340282366920938463463374607431768211456",
+            Answer::Limit(Which::Number),
+        ),
+        (b", 1001 = card", Answer::Limit(Which::Size)),
+        (
+            b", 340282366920938463463374607431768211455 <= card",
+            Answer::Limit(Which::Size),
+        ),
+        (
+            b", 340282366920938463463374607431768211456 >= card",
+            Answer::Limit(Which::Number),
+        ),
+        (b", 1001 card", Answer::Limit(Which::Size)),
+        (b", card 1001", Answer::Syntax(1, 38)),
+        (b" 1001", Answer::Syntax(1, 32)),
+    ];
+    for (bound, wanted) in rows {
+        let text = bounded(alloc, bound)?;
+        assert_eq!(rt; outcome(rt, alloc, text.as_slice()), wanted);
+    }
+    Ok(())
+}
+
+fn universes_are_read(rt: &impl Abort, alloc: Global) -> Result<(), Fail> {
+    let rows: [(&[u8], Universe); 5] = [
+        (b"", Universe::Unlabelled),
+        (b", labelled", Universe::Labelled),
+        (b", unlabelled", Universe::Unlabelled),
+        (b", labeled", Universe::Labelled),
+        (b", unlabeled", Universe::Unlabelled),
+    ];
+    for (word, wanted) in rows {
+        let mut text = Vec::from_slice(alloc, b"allstructs([S, {S = Z}")?;
+        text.extend_from_slice(word)?;
+        text.extend_from_slice(b"], size = 1);")?;
+        let begins = begins_piece(text.as_slice());
+        assert!(rt; begins);
+        let statement = read_statement(alloc, text.as_slice(), 1, 1)?;
+        let (_, _, universe) = class_of(rt, &statement);
+        assert_eq!(rt; universe, wanted);
+    }
+    Ok(())
+}
+
+fn z_is_a_name(rt: &impl Abort, alloc: Global) -> Result<(), Fail> {
+    let rows: [&[u8]; 2] = [
+        b"allstructs([Z, {S = Prod(Z), Z = Z}], size = 1);",
+        b"allstructs([Z, {S = Prod(Z), Z = Atom}], size = 1);",
+    ];
+    for text in rows {
+        let begins = begins_piece(text);
+        assert!(rt; begins);
+        let statement = read_statement(alloc, text, 1, 1)?;
+        let (symbol, spec, _) = class_of(rt, &statement);
+        assert_eq!(rt; symbol, b"Z".as_slice());
+        assert!(rt; spec.rules() == 2);
+        assert_eq!(rt; spec.name(2).as_slice(), b"Z".as_slice());
+        assert!(rt; matches!(spec.right(2).shape, ExprShape::Atom));
+    }
+    let twice = b"allstructs([Z, {Z = Z, Z = Z}], size = 1);";
+    let begins = begins_piece(twice);
+    assert!(rt; begins);
+    let Err(ReadRefused::DuplicateRule(name)) = read_statement(alloc, twice, 1, 1) else {
+        panic!(rt; "no repeated rule");
+    };
+    assert_eq!(rt; name.as_slice(), b"Z".as_slice());
+    Ok(())
+}
+
 /// The tables of what pieces are read as.
 #[test]
 fn the_table_of_readings(rt: HostRuntime) -> Result<(), Fail> {
     let alloc = rt.alloc();
-    each_token_of_a_statement_is_looked_at(&rt, alloc)?;
+    each_token_is_looked_at(&rt, alloc, TEXT, &TOKENS)?;
+    each_token_is_looked_at(&rt, alloc, BOUND_TEXT, &BOUND_TOKENS)?;
     faults_stand_where_the_table_says(&rt, alloc)?;
     limits_are_tested_in_order(&rt, alloc)?;
+    bounds_are_read(&rt, alloc)?;
+    bounds_are_at_most_1000(&rt, alloc)?;
+    universes_are_read(&rt, alloc)?;
+    z_is_a_name(&rt, alloc)?;
     a_piece_has_at_most_65536_bytes(&rt, alloc)
 }
 

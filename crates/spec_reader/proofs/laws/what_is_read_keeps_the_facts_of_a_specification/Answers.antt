@@ -1,5 +1,6 @@
 use Rattle.spec_reader.proofs.Keeps.{readings-keep}
 use Rattle.spec_reader.proofs.Small.{readings-small}
+use Rattle.spec_reader.proofs.Sequences.{readings-have-sequences}
 use Rattle.spec_reader.proofs.laws.what_is_read_keeps_the_facts_of_a_specification.Goals as goal
 
 pub returns-clause-keeps : goal.returns-clause-keeps
@@ -7,3 +8,6 @@ returns-clause-keeps c = readings-keep
 
 pub returns-clause-small : goal.returns-clause-small
 returns-clause-small c = readings-small
+
+pub returns-clause-sequences : goal.returns-clause-sequences
+returns-clause-sequences c = readings-have-sequences
