@@ -5,6 +5,7 @@ use Rattle.std.proofs.lemmas.Bool.{cases_lt, cases_order}
 use Rattle.std.proofs.lemmas.Bool.Decides.{nat_tests}
 use Rattle.struct_model.specs.declared.keys.Run.{Run}
 use Rattle.struct_model.specs.Structure.{inserted, ascending}
+use Rattle.struct_model.proofs.AscendingLabels.{inserted_first, inserted_later}
 use Rattle.struct_model.specs.Runs.{lesser_run, merged, run_of, first_run, key_from}
 
 -- the numbers from low on
@@ -16,12 +17,6 @@ from_keep low x xs h = grind (arith, nat_tests)
 
 from_skip : (low x : ℕ) (xs : List ℕ) → x < low → from low (x ∷ xs) ≡ from low xs
 from_skip low x xs h = grind (arith, nat_tests)
-
-inserted_first : (x m : ℕ) (ms : List ℕ) → x ≤ m → inserted x (m ∷ ms) ≡ x ∷ m ∷ ms
-inserted_first x m ms h = grind (arith, nat_tests)
-
-inserted_later : (x m : ℕ) (ms : List ℕ) → m < x → inserted x (m ∷ ms) ≡ m ∷ inserted x ms
-inserted_later x m ms h = grind (arith, nat_tests)
 
 -- a number above those of a run goes in after the run
 inserted_after : (x m n : ℕ) (ms : List ℕ) → m < x → inserted x (replicate n m ++ ms) ≡ replicate n m ++ inserted x ms

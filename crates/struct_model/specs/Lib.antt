@@ -5,6 +5,7 @@ pub mod StructureFalls
 pub mod Order
 pub mod Runs
 pub mod Membership
+pub mod SupplyView
 pub mod Listing
 pub mod Bounded
 pub mod Text

@@ -1,8 +1,8 @@
 //! Structures as trees.
-ghost use Rattle.std.specs.Prelude.{◌≡◌, ◌<◌, ◌^◌, length, IfOk};
-ghost use Rattle.struct_model.specs.Structure.{size, labels_of_parts, parts_of};
+ghost use Rattle.std.specs.Prelude.{◌≡◌, ◌<◌, ◌^◌, ◌++◌, length, IfOk, OnOk};
+ghost use Rattle.struct_model.specs.Structure.{size, labels, labels_of_parts, parts_of};
 
-use crate::Structs;
+use crate::{Labels, Structs};
 use std::alloc::{AllocError, Global};
 use std::marker::Model;
 
@@ -142,4 +142,43 @@ fn copy_parts(alloc: Global, parts: &Structs) -> Result<Structs, AllocError>
         copied.push(copy(alloc, part)?)?;
     }
     Ok(copied)
+}
+
+/// The labels of the atoms of `s` from left to right. They may repeat and needn't ascend.
+///
+/// # Errors
+///
+/// Memory may be wanting.
+pub fn labels(alloc: Global, s: &Struct) -> Result<Labels, AllocError>
+    ensures { IfOk result (λ found. found ≡ labels s.now) }
+{
+    let mut found = Labels::new(alloc);
+    push_labels(s, &mut found)?;
+    Ok(found)
+}
+
+/// Puts the labels of the atoms of `s` at the end of `found`, from left to right.
+#[cycle(labelling)]
+fn push_labels(s: &Struct, found: &mut Labels) -> Result<(), AllocError>
+    ensures { OnOk result (found.new ≡ found.old ++ labels s.now) }
+{
+    match &s.shape {
+        Shape::Eps(_) => Ok(()),
+        Shape::Atom(_, label) => found.push(*label),
+        Shape::Named(_, inside) => push_labels(inside, found),
+        Shape::Alt(_, inside) => push_labels(inside, found),
+        Shape::Tup(_, parts) => push_labels_of_parts(parts, found),
+    }
+}
+
+/// The same for all the parts from the left.
+#[cycle(labelling)]
+#[tactic(auto, using(crate::proofs::Parts::nodes_of_part))]
+fn push_labels_of_parts(parts: &Structs, found: &mut Labels) -> Result<(), AllocError>
+    ensures { OnOk result (found.new ≡ found.old ++ labels_of_parts (parts_of parts.now)) }
+{
+    for part in parts.as_slice() {
+        push_labels(part, found)?;
+    }
+    Ok(())
 }

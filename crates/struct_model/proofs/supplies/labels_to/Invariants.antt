@@ -1,0 +1,6 @@
+use Rattle.std.proofs.Common.{◌≡◌}
+use Rattle.struct_model.specs.Membership.{one_to}
+use Rattle.struct_model.proofs.supplies.labels_to.Given as goal
+
+abbrev pub invariant-loop-below : goal.invariant-loop-below
+invariant-loop-below l = l.labels ≡ one_to l.below
