@@ -16,25 +16,27 @@ use Rattle.spec_syntax.specs.Rules.{Rules, symbol, rule_name, is_same_name, are_
 use Rattle.spec_syntax.specs.Grammar.{Grammar}
 use Rattle.spec_syntax.proofs.RulesLemmas.{distinct-from_spec, all_nodes-from_spec, symbol-within}
 use Rattle.struct_model.specs.Listing.{IsIn}
-use Rattle.well_founded.specs.declared.refused.Refused.TheVariants.{Unproductive, Endless}
-use Rattle.well_founded.specs.Names.{is_plain, are_plain, name_without_rule, undefined_name}
+use Rattle.well_founded.specs.declared.refused.Refused.TheVariants.{CycleUnlabelled, Unproductive, NullElement, Endless}
+use Rattle.well_founded.specs.Names.{name_without_rule, undefined_name}
 use Rattle.well_founded.specs.Sizes.{IsProductive, IsLeast, no_least}
 use Rattle.well_founded.specs.Least.{IsSize, AreSizes, least_with, size_of_name, least_by, leasts_of}
 use Rattle.well_founded.specs.Nodes.{node_at, right_node}
 use Rattle.well_founded.specs.NodeTable.{right_nodes_from}
 use Rattle.well_founded.specs.Graph.{Graph, Leads, IsGraph, AreCounts}
 use Rattle.well_founded.specs.SameSize.{same_size_graph}
+use Rattle.well_founded.specs.Containers.{is_allowed, is_without_null}
 use Rattle.well_founded.specs.Search.{IsFirstRound, IsNoRound}
 use Rattle.well_founded.specs.Rank.{AreRanks}
 use Rattle.well_founded.specs.Checked.{IsChecked, AreLeasts}
-use Rattle.well_founded.specs.WellFounded.{HoldsItself, OfRule, HasNoStructure, IsEndless, OfNone, IsFirst, IsEachProductive, IsWellFounded, IsCulprit}
-use Rattle.well_founded.proofs.NodesLaws.{in_of_get, get_of_in, node_plain}
+use Rattle.well_founded.specs.WellFounded.{may_hold_cycles, HoldsItself, OfRule, HoldsCycle, HasNoStructure, HoldsNull, IsEndless, OfNone, IsFirst, IsEachProductive, IsWellFounded, IsCulprit}
+use Rattle.well_founded.proofs.NodesLaws.{in_of_get, get_of_in}
+use Rattle.well_founded.proofs.CyclesLaws.{name_allowed, rule_allowed, node_allowed}
 use Rattle.well_founded.proofs.NodeTables.{get-right_nodes, length-right_nodes, length-right_table, table_right_within}
 use Rattle.well_founded.proofs.EndlessLaws.{endless_is}
 use Rattle.well_founded.proofs.RankLaws.{graph-length, is_graph, are_ranks}
-use Rattle.well_founded.proofs.CheckExists.{no_cycles_plain, no_nulls_plain, same_name}
+use Rattle.well_founded.proofs.CheckExists.{same_name, null_where, no_null_where}
 
-slice_some : {X : Type 0} (xs : List X) (i : ℕ) → i < length xs → (x : X) × (slice_get xs i ≡ Some x)
+pub slice_some : {X : Type 0} (xs : List X) (i : ℕ) → i < length xs → (x : X) × (slice_get xs i ≡ Some x)
 slice_some [] i h = absurd (omega arith)
 slice_some (x ∷ xs) zero h = (x, refl)
 slice_some (x ∷ xs) (suc i) h = slice_some xs i (omega arith)
@@ -69,6 +71,14 @@ first_at P (head ∷ rules) (suc i) rule at holds before =
     none name right earlier (inr there) said others = others name right there said
 
 -- ---- names
+
+true_not : (b : Bool) → not b ≡ true → b ≡ false
+true_not true h = absurd (true≢false (sym h))
+true_not false h = refl
+
+not_true : (b : Bool) → not b ≡ false → b ≡ true
+not_true true h = refl
+not_true false h = absurd (true≢false h)
 
 any_false : {X : Type 0} (test : X → Bool) (xs : List X) (i : ℕ) (x : X) → list_any test xs ≡ false → slice_get xs i ≡ Some x → test x ≡ false
 any_false test [] i x none at = absurd (cc)
@@ -105,16 +115,12 @@ own_from (head ∷ rules) first zero rule distinct at =
 own_from (head ∷ rules) first (suc i) rule distinct at =
     let both = and_parts (not (list_any (λ other. is_same_name other.0 head.0) rules)) (are_names_distinct rules) distinct in
     ap (λ (b : Bool). cond b (Some first) (position_from (λ other. is_same_name other.0 rule.0) (first + 1) rules))
-    (other_name head.0 rule.0 (any_false (λ other. is_same_name other.0 head.0) rules i rule (not_true (list_any (λ other. is_same_name other.0 head.0) rules) both.0) at))
+    (other_name head.0 rule.0 (any_false (λ other. is_same_name other.0 head.0) rules i rule (true_not (list_any (λ other. is_same_name other.0 head.0) rules) both.0) at))
     ∙ own_from rules (first + 1) i rule both.1 at
     ∙ ap Some (number first i)
   where
     number : (n m : ℕ) → n + 1 + m ≡ n + suc m
     number n m = omega arith
-
-    not_true : (b : Bool) → not b ≡ true → b ≡ false
-    not_true true h = absurd (true≢false (sym h))
-    not_true false h = refl
 
 -- the number of a rule is found by its name
 pub symbol_own : (rules : Rules) (i : ℕ) (rule : List ℕ × Expression) → IsTrue (is_spec rules) → slice_get rules i ≡ Some rule → symbol rules rule.0 ≡ Some (suc i)
@@ -128,37 +134,100 @@ without_rule rules none = ap (λ (o : Option (List ℕ)). option_or o None) none
 
 -- ---- sizes
 
-from_none : (table : List (Option ℕ)) (first i : ℕ) (entry : Option ℕ) → position_from is_none first table ≡ None → slice_get table i ≡ Some entry → entry ≡ None → ⊥
-from_none [] first i entry none at is = absurd (cc)
-from_none (None ∷ table) first i entry none at is = absurd (cc)
-from_none (Some n ∷ table) first zero entry none at is = absurd (cc)
-from_none (Some n ∷ table) first (suc i) entry none at is = from_none table (first + 1) i entry none at is
+module _ {X : Type 0} (test : X → Bool) where
+  -- the place at which a search stops
+  record IsFound (xs : List X) (first n : ℕ) : Type 0 where
+    i : ℕ
+    x : X
+    number : first + i ≡ n
+    at : slice_get xs i ≡ Some x
+    passes : test x ≡ true
+    before : (j : ℕ) (y : X) → j < i → slice_get xs j ≡ Some y → test y ≡ false
 
-from_some : (table : List (Option ℕ)) (first place : ℕ) → position_from is_none first table ≡ Some place
-    → (i : ℕ) × (i ≡ place - first) × (slice_get table i ≡ Some None) × ((j : ℕ) (entry : Option ℕ) → j < i → slice_get table j ≡ Some entry → entry ≡ None → ⊥) × (first ≤ place)
-from_some [] first place found = absurd (cc)
-from_some (None ∷ table) first place found =
-    let same : first ≡ place = cc in
-    (0, omega (arith, same), refl, λ j entry less there is. absurd (omega (arith, less)), omega (arith, same))
-from_some (Some n ∷ table) first place found =
-    let rest = from_some table (first + 1) place found in
-    (suc rest.0, omega (arith, rest.1, rest.4), rest.2, λ j entry less there is. before n table j rest.0 entry less there is rest.3, omega (arith, rest.4))
-  where
-    before : (n : ℕ) (table : List (Option ℕ)) (j i : ℕ) (entry : Option ℕ) → j < suc i → slice_get (Some n ∷ table) j ≡ Some entry → entry ≡ None
-        → ((j : ℕ) (entry : Option ℕ) → j < i → slice_get table j ≡ Some entry → entry ≡ None → ⊥) → ⊥
-    before n table zero i entry less there is none = absurd (cc)
-    before n table (suc j) i entry less there is none = none j entry (omega (arith, less)) there is
+  found_at : (xs : List X) (first n : ℕ) → position_from test first xs ≡ Some n → IsFound xs first n
+  found_at [] first n found = absurd (cc)
+  found_at (x ∷ xs) first n found = by (test x) refl found (λ later. found_at xs (first + 1) n later)
+    where
+      passed : test x ≡ false → (i j : ℕ) (y : X) → ((k : ℕ) (z : X) → k < i → slice_get xs k ≡ Some z → test z ≡ false) → j < suc i → slice_get (x ∷ xs) j ≡ Some y → test y ≡ false
+      passed fails i zero y before less at = let same : x ≡ y = cc in ap test (sym same) ∙ fails
+      passed fails i (suc j) y before less at = before j y (omega (arith, less)) at
+
+      by : (b : Bool) → test x ≡ b → cond b (Some first) (position_from test (first + 1) xs) ≡ Some n → (position_from test (first + 1) xs ≡ Some n → IsFound xs (first + 1) n)
+          → IsFound (x ∷ xs) first n
+      by true told found later =
+          let same : first ≡ n = cc in
+          record { i = 0; x = x; number = omega (arith, same); at = refl; passes = told; before = λ j y less at. absurd (omega (arith, less)) }
+      by false told found later =
+          let rest = later found in
+          record {
+            i = suc rest.i;
+            x = rest.x;
+            number = omega (arith, rest.number);
+            at = rest.at;
+            passes = rest.passes;
+            before = λ j y less at. passed told rest.i j y rest.before less at;
+          }
+
+  not_found : (xs : List X) (first i : ℕ) (x : X) → position_from test first xs ≡ None → slice_get xs i ≡ Some x → test x ≡ false
+  not_found [] first i x none at = absurd (cc)
+  not_found (y ∷ ys) first i x none at = by (test y) refl none i at (λ later. not_found ys (first + 1) later x)
+    where
+      by : (b : Bool) → test y ≡ b → cond b (Some first) (position_from test (first + 1) ys) ≡ None → (i : ℕ) → slice_get (y ∷ ys) i ≡ Some x
+          → ((j : ℕ) → position_from test (first + 1) ys ≡ None → slice_get ys j ≡ Some x → test x ≡ false) → test x ≡ false
+      by true told none i at later = absurd (cc)
+      by false told none zero at later = let same : y ≡ x = cc in ap test (sym same) ∙ told
+      by false told none (suc j) at later = later j none at
+
+-- a rule that is found has a number
+pub number_within : (test : List ℕ × Expression → Bool) (rules : Rules) (n : ℕ) → position_from test 1 rules ≡ Some n → (1 ≤ n) × (n ≤ length rules)
+number_within test rules n found =
+    let at = found_at test rules 1 n found in
+    (omega (arith, at.number), omega (arith, at.number, slice_get_within rules at.i at.x at.at))
+
+none_is : (entry : Option ℕ) → is_none entry ≡ true → entry ≡ None
+none_is None h = refl
+none_is (Some n) h = absurd (true≢false (sym h))
+
+some_is : (entry : Option ℕ) → is_none entry ≡ false → entry ≡ None → ⊥
+some_is entry h is = true≢false (ap is_none (sym is) ∙ h)
 
 position_none : (table : List (Option ℕ)) → position is_none table ≡ None → (i : ℕ) (entry : Option ℕ) → slice_get table i ≡ Some entry → entry ≡ None → ⊥
-position_none table none i entry at is = from_none table 0 i entry (sym (position_from-zero is_none table) ∙ none) at is
+position_none table none i entry at is = some_is entry (not_found is_none table 0 i entry (sym (position_from-zero is_none table) ∙ none) at) is
 
 position_some : (table : List (Option ℕ)) (place : ℕ) → position is_none table ≡ Some place → (slice_get table place ≡ Some None) × ((j : ℕ) (entry : Option ℕ) → j < place → slice_get table j ≡ Some entry → entry ≡ None → ⊥)
 position_some table place found =
-    let from = from_some table 0 place (sym (position_from-zero is_none table) ∙ found) in
-    (subst (λ (j : ℕ). slice_get table j ≡ Some None) (from.1 ∙ number place) from.2, λ j entry less there is. from.3 j entry (omega (arith, less, from.1)) there is)
+    let from = found_at is_none table 0 place (sym (position_from-zero is_none table) ∙ found) in
+    let number : from.i ≡ place = omega (arith, from.number) in (
+      subst (λ (j : ℕ). slice_get table j ≡ Some None) number (from.at ∙ ap Some (none_is from.x from.passes)),
+      λ j entry less there is. some_is entry (from.before j entry (omega (arith, less, number)) there) is,
+    )
+
+name_found : (rules : Rules) (i number : ℕ) (rule : List ℕ × Expression) → 1 + i ≡ number → slice_get rules i ≡ Some rule → rule_name rules number ≡ rule.0
+name_found rules i number rule same at =
+    ap (rule_name rules) (sym (next i number same)) ∙ ap (λ (o : Option (List ℕ × Expression)). unwrap_or (option_map (λ (r : List ℕ × Expression). r.0) o) []) at
   where
-    number : (n : ℕ) → n - 0 ≡ n
-    number n = omega arith
+    next : (j k : ℕ) → 1 + j ≡ k → suc j ≡ k
+    next j k h = omega (arith, h)
+
+-- ---- containers
+
+-- the rule with a Cycle that is found is refused
+pub cycle_said : (rules : Rules) (universe : Universe) (number : ℕ) (name : List ℕ) → position_from (λ rule. not (is_allowed universe rule.1)) 1 rules ≡ Some number
+    → name ≡ rule_name rules number → (given : Option (List ℕ)) → undefined_name rules given ≡ None
+    → IsCulprit (record { rules = rules; universe = universe }) given (CycleUnlabelled name)
+cycle_said rules universe number name found is given named =
+    let first = found_at (λ rule. not (is_allowed universe rule.1)) rules 1 number found in (
+      named,
+      subst (IsFirst (HoldsCycle (record { rules = rules; universe = universe })) rules) (sym (is ∙ name_found rules first.i number first.x first.number first.at))
+          (first_at (HoldsCycle (record { rules = rules; universe = universe })) rules first.i first.x first.at (true_not (is_allowed universe first.x.1) first.passes)
+          (λ j other less at holds. true≢false (sym (not_true (is_allowed universe other.1) (first.before j other less at)) ∙ holds))),
+    )
+
+pub none_with_cycle : (rules : Rules) (universe : Universe) → position_from (λ rule. not (is_allowed universe rule.1)) 1 rules ≡ None
+    → OfNone (HoldsCycle (record { rules = rules; universe = universe })) rules
+none_with_cycle rules universe none name right there holds =
+    let at = get_of_in rules (name, right) there in
+    true≢false (sym (not_true (is_allowed universe right) (not_found (λ rule. not (is_allowed universe rule.1)) rules 1 at.0 (name, right) none at.1)) ∙ holds)
 
 -- an entry for each rule
 entry_of : (rules : Rules) (table : List (Option ℕ)) (i : ℕ) (rule : List ℕ × Expression) → length table ≡ length rules → slice_get rules i ≡ Some rule → (entry : Option ℕ) × (slice_get table i ≡ Some entry)
@@ -173,15 +242,16 @@ rule_of [] (head ∷ table) i entry same at = absurd (omega (arith, same))
 rule_of (rule ∷ rules) (head ∷ table) zero entry same at = (rule, refl)
 rule_of (rule ∷ rules) (head ∷ table) (suc i) entry same at = rule_of rules table i entry (omega (arith, same)) at
 
-module _ (rules : Rules) (universe : Universe) (table : List (Option ℕ)) (plain : are_plain rules ≡ true) (spec : IsTrue (is_spec rules)) (sized : AreSizes rules table) where
+module _ (rules : Rules) (universe : Universe) (table : List (Option ℕ)) (allows : OfNone (HoldsCycle (record { rules = rules; universe = universe })) rules) (spec : IsTrue (is_spec rules))
+    (sized : AreSizes rules table) where
   abbrev g : Grammar
   g = record { rules = rules; universe = universe }
 
   abbrev sizes : Expression → Option ℕ
   sizes = least_with (size_of_name rules table)
 
-  size_is : (e : Expression) → is_plain e ≡ true → IsSize g e (sizes e)
-  size_is e bare = sized.each universe e bare
+  size_is : (e : Expression) → may_hold_cycles g e ≡ true → IsSize g e (sizes e)
+  size_is e allowed = sized.each universe e allows allowed
 
   entry_size : (i : ℕ) (rule : List ℕ × Expression) (entry : Option ℕ) → slice_get rules i ≡ Some rule → slice_get table i ≡ Some entry → sizes (expr.Name rule.0) ≡ entry
   entry_size i rule entry at there =
@@ -194,7 +264,7 @@ module _ (rules : Rules) (universe : Universe) (table : List (Option ℕ)) (plai
 
   -- what the table says of a rule
   pub rule_size : (i : ℕ) (rule : List ℕ × Expression) (entry : Option ℕ) → slice_get rules i ≡ Some rule → slice_get table i ≡ Some entry → IsSize g (expr.Name rule.0) entry
-  rule_size i rule entry at there = subst (λ (size : Option ℕ). IsSize g (expr.Name rule.0) size) (entry_size i rule entry at there) (size_is (expr.Name rule.0) refl)
+  rule_size i rule entry at there = subst (λ (size : Option ℕ). IsSize g (expr.Name rule.0) size) (entry_size i rule entry at there) (size_is (expr.Name rule.0) (name_allowed g rule.0))
 
   productive_at : (i : ℕ) (rule : List ℕ × Expression) (entry : Option ℕ) → slice_get rules i ≡ Some rule → slice_get table i ≡ Some entry → (entry ≡ None → ⊥) → IsProductive g (expr.Name rule.0)
   productive_at i rule None at there some = absurd (some refl)
@@ -216,19 +286,40 @@ module _ (rules : Rules) (universe : Universe) (table : List (Option ℕ)) (plai
       let entry = entry_of rules table j other sized.for_each at_j in
       none (productive_at j other entry.0 at_j entry.1 (where_none.1 j entry.0 less entry.1)))
 
+  -- the rule with a container over one that can be empty that is found is refused
+  pub null_said : IsEachProductive g → (number : ℕ) (name : List ℕ) → position_from (λ rule. not (is_without_null sizes rule.1)) 1 rules ≡ Some number → name ≡ rule_name rules number
+      → (given : Option (List ℕ)) → undefined_name rules given ≡ None → IsCulprit g given (NullElement name)
+  null_said productive number name found is given named =
+      let first = found_at (λ rule. not (is_without_null sizes rule.1)) rules 1 number found in (
+        named,
+        allows,
+        productive,
+        subst (IsFirst (HoldsNull g) rules) (sym (is ∙ name_found rules first.i number first.x first.number first.at))
+            (first_at (HoldsNull g) rules first.i first.x first.at
+            (null_where g sizes size_is first.x.1 (rule_allowed g first.x.0 first.x.1 allows (in_of_get rules first.i first.x first.at)) (true_not (is_without_null sizes first.x.1) first.passes))
+            (λ j other less at.
+            no_null_where g sizes size_is other.1 (rule_allowed g other.0 other.1 allows (in_of_get rules j other at)) (not_true (is_without_null sizes other.1) (first.before j other less at)))),
+      )
+
+  pub none_over_null : position_from (λ rule. not (is_without_null sizes rule.1)) 1 rules ≡ None → OfNone (HoldsNull g) rules
+  none_over_null none name right there =
+      let at = get_of_in rules (name, right) there in
+      no_null_where g sizes size_is right (rule_allowed g name right allows there)
+      (not_true (is_without_null sizes right) (not_found (λ rule. not (is_without_null sizes rule.1)) rules 1 at.0 (name, right) none at.1))
+
   -- ---- the graph
 
   abbrev graph : Graph
   graph = same_size_graph rules sizes
 
   pub graph_is : IsGraph graph
-  graph_is = is_graph g sizes plain size_is
+  graph_is = is_graph g sizes
 
   pub graph_nodes : length graph ≡ length (all_nodes rules)
-  graph_nodes = graph-length g sizes plain size_is
+  graph_nodes = graph-length g sizes
 
   pub graph_few : length graph ≤ 128
-  graph_few = omega (arith, graph-length g sizes plain size_is, all_nodes-from_spec rules spec)
+  graph_few = omega (arith, graph-length g sizes, all_nodes-from_spec rules spec)
 
   root_at : (i : ℕ) (rule : List ℕ × Expression) → slice_get rules i ≡ Some rule → slice_get (right_nodes_from 0 rules) i ≡ Some (right_node rules (suc i))
   root_at i rule at = get-right_nodes 0 i rules (slice_get_within rules i rule at) ∙ ap Some (number (length (all_nodes (take i rules))))
@@ -236,9 +327,9 @@ module _ (rules : Rules) (universe : Universe) (table : List (Option ℕ)) (plai
       number : (n : ℕ) → 0 + n ≡ n
       number n = omega arith
 
-  module _ (productive : IsEachProductive g) where
+  module _ (productive : IsEachProductive g) (full : OfNone (HoldsNull g) rules) where
     way : (i : ℕ) (rule : List ℕ × Expression) → slice_get rules i ≡ Some rule → HoldsItself g rule.0 ↔ Leads graph (right_node rules (suc i)) (right_node rules (suc i))
-    way i rule at = endless_is g sizes plain size_is rule.0 (suc i) (symbol_own rules i rule spec at) (productive rule.0 rule.1 (in_of_get rules i rule at))
+    way i rule at = endless_is g sizes allows size_is full rule.0 (suc i) (symbol_own rules i rule spec at) (productive rule.0 rule.1 (in_of_get rules i rule at))
 
     -- the first root that leads to itself is that of the first rule that holds itself
     pub first_endless : (place : ℕ) (rule : List ℕ × Expression) → IsFirstRound graph (right_nodes_from 0 rules) place → slice_get rules place ≡ Some rule → IsFirst (IsEndless g) rules rule.0
@@ -256,14 +347,14 @@ module _ (rules : Rules) (universe : Universe) (table : List (Option ℕ)) (plai
     pub passes : name_without_rule rules ≡ None → IsNoRound graph (right_nodes_from 0 rules) → IsWellFounded g
     passes named none = record {
       named = without_rule rules named;
-      no_cycles = no_cycles_plain g plain;
+      no_cycles = allows;
       productive = productive;
-      no_null_elements = no_nulls_plain g plain;
+      no_null_elements = full;
       finite = none_endless none;
     }
 
     pub ranked : (counts : List ℕ) → IsNoRound graph (right_nodes_from 0 rules) → AreCounts graph counts → AreRanks g counts
-    ranked counts none counted = are_ranks g sizes plain size_is productive (none_endless none) counts counted
+    ranked counts none counted = are_ranks g sizes allows size_is productive (none_endless none) full counts counted
 
   least_when : (e : Expression) (size : Option ℕ) → IsSize g e size → IsLeast g e (unwrap_or size no_least)
   least_when e None none = inr (refl, λ s of. absurd (none (s, of)))
@@ -277,7 +368,7 @@ module _ (rules : Rules) (universe : Universe) (table : List (Option ℕ)) (plai
       each n l e at there =
           let same : least_by rules table e ≡ l =
           same_Some (least_by rules table e) l (sym (slice_get-map (least_by rules table) (all_nodes rules) n ∙ ap (option_map (least_by rules table)) at) ∙ there) in
-          subst (IsLeast g e) same (least_when e (sizes e) (size_is e (node_plain rules n e plain at)))
+          subst (IsLeast g e) same (least_when e (sizes e) (size_is e (node_allowed g n e allows at)))
 
   -- the least size of a rule that has a structure
   pub rule_least : (i : ℕ) (rule : List ℕ × Expression) (entry : Option ℕ) → slice_get rules i ≡ Some rule → slice_get table i ≡ Some entry → IsLeast g (expr.Name rule.0) (unwrap_or entry no_least)
@@ -297,18 +388,18 @@ module _ (rules : Rules) (universe : Universe) (table : List (Option ℕ)) (plai
   pub round_within : (place : ℕ) → IsFirstRound graph (right_nodes_from 0 rules) place → place < length rules
   round_within place found = omega (arith, slice_get_within (right_nodes_from 0 rules) place found.root found.at, length-right_nodes 0 rules)
 
-  pub endless_said : (productive : position is_none table ≡ None) (place : ℕ) (name : List ℕ) (n : ℕ) (entry : Option ℕ) → IsFirstRound graph (right_nodes_from 0 rules) place
+  pub endless_said : (productive : position is_none table ≡ None) (full : OfNone (HoldsNull g) rules) (place : ℕ) (name : List ℕ) (n : ℕ) (entry : Option ℕ) → IsFirstRound graph (right_nodes_from 0 rules) place
       → name ≡ rule_name rules (place + 1) → slice_get table place ≡ Some entry → n ≡ unwrap_or entry no_least
       → (given : Option (List ℕ)) → undefined_name rules given ≡ None → IsCulprit g given (Endless name n)
-  endless_said productive place name n entry found is there size given named =
+  endless_said productive full place name n entry found is there size given named =
       let rule = some_rule place (round_within place found) in
       let same : rule.0.0 ≡ name = sym (is ∙ name_at place rule.0 rule.1) in
       let each = each_productive productive in (
         named,
-        no_cycles_plain g plain,
+        allows,
         each,
-        no_nulls_plain g plain,
-        subst (IsFirst (IsEndless g) rules) same (first_endless each place rule.0 found rule.1),
+        full,
+        subst (IsFirst (IsEndless g) rules) same (first_endless each full place rule.0 found rule.1),
         subst (λ (m : ℕ). IsLeast g (expr.Name name) m) (sym size) (subst (λ (own : List ℕ). IsLeast g (expr.Name own) (unwrap_or entry no_least)) same (rule_least place rule.0 entry rule.1 there)),
       )
 
@@ -317,18 +408,17 @@ module _ (rules : Rules) (universe : Universe) (table : List (Option ℕ)) (plai
   unproductive_said place name found is given named =
       let rule = some_rule place (position_within place found) in
       let same : rule.0.0 ≡ name = sym (is ∙ name_at place rule.0 rule.1) in
-      (named, no_cycles_plain g plain, subst (IsFirst (HasNoStructure g) rules) same (first_unproductive place rule.0 found rule.1))
+      (named, allows, subst (IsFirst (HasNoStructure g) rules) same (first_unproductive place rule.0 found rule.1))
 
   -- the grammar with its tables passes
-  pub is_checked : position is_none table ≡ None → name_without_rule rules ≡ None → IsNoRound graph (right_nodes_from 0 rules) → (start : Option ℕ) (counts : List ℕ)
+  pub is_checked : position is_none table ≡ None → OfNone (HoldsNull g) rules → name_without_rule rules ≡ None → IsNoRound graph (right_nodes_from 0 rules) → (start : Option ℕ) (counts : List ℕ)
       → IfSome start (λ number. (1 ≤ number) × (number ≤ length rules)) → AreCounts graph counts
       → IsChecked (record { rules = rules; universe = universe; start = start; leasts = leasts_of rules table; ranks = counts })
-  is_checked productive named none start counts started counted = record {
+  is_checked productive full named none start counts started counted = record {
     spec = spec;
-    plain = plain;
-    well_founded = passes (each_productive productive) named none;
+    well_founded = passes (each_productive productive) full named none;
     least = are_leasts;
-    ranked = ranked (each_productive productive) counts none counted;
+    ranked = ranked (each_productive productive) full counts none counted;
     started = started;
   }
 

@@ -1,7 +1,7 @@
 -- Tables of sizes that fall from round to round reach the least sizes.
 use Rattle.std.proofs.Common.{◌≡◌, ◌⊎◌, ℕ, zero, suc, ◌+◌, ◌-◌, ◌<◌, ◌≤◌, true, List, [], ◌∷◌, length, map, replicate, get_or, slice_get, unwrap_or, Option, Some, None, refl, sym, ap, ◌∙◌, subst, inl, inr, arith}
-use Rattle.std.specs.Prelude.{All, IsTrue}
-use Rattle.std.specs.Option.{option_map, option_map_or}
+use Rattle.std.specs.Prelude.{All}
+use Rattle.std.specs.Option.{option_map, option_map_or, option_and_then}
 use Rattle.std.proofs.lemmas.Bool.{cases_lt}
 use Rattle.std.proofs.lemmas.Option.{slice_get-map, slice_get-get_or, get_or_from_slice_get, slice_get_within}
 use Rattle.std.proofs.lemmas.List.Elements.{All-map}
@@ -13,11 +13,11 @@ use Rattle.spec_syntax.specs.Rules.{Rules, symbol, right_side}
 use Rattle.spec_syntax.specs.Grammar.{Grammar}
 use Rattle.spec_syntax.proofs.RulesLemmas.{symbol-within}
 use Rattle.struct_model.specs.Structure.{Structure, size}
-use Rattle.well_founded.specs.Names.{is_plain, are_plain}
+use Rattle.well_founded.specs.WellFounded.{may_hold_cycles, HoldsCycle, OfNone}
 use Rattle.well_founded.specs.Sizes.{IsOf, IsProductive, IsLeast, no_least}
-use Rattle.well_founded.specs.Least.{lesser, together, least_with, least_of_some, least_of_all, size_of_name, next_sizes, IsSmall, IsSize, AreSizes}
-use Rattle.well_founded.proofs.SetsLaws.{plain_is, is_plain_of}
-use Rattle.well_founded.proofs.LeastLaws.{IsClosed, IsAtMost, at_most}
+use Rattle.well_founded.specs.Least.{lesser, together, fewest, copies, least_with, least_of_some, least_of_all, size_of_name, next_sizes, IsSmall, IsSize, AreSizes}
+use Rattle.well_founded.proofs.CyclesLaws.{right_allowed}
+use Rattle.well_founded.proofs.LeastLaws.{IsClosed, IsAtMost, at_most, copies_more}
 use Rattle.well_founded.proofs.LeastReached.{IsReached, IsSound, name_reached, is_reached}
 
 abbrev in_universe : Rules → Universe → Grammar
@@ -35,6 +35,14 @@ together_small None b = tt
 together_small (Some x) None = tt
 together_small (Some x) (Some y) = omega arith
 
+copies_small : (n : ℕ) (size : Option ℕ) → IsSmall (copies n size)
+copies_small zero size = omega arith
+copies_small (suc n) size = subst IsSmall (sym (copies_more n size)) (together_small size (copies n size))
+
+many_small : (count size : Option ℕ) → IsSmall (option_and_then (λ n. copies n size) count)
+many_small None size = tt
+many_small (Some n) size = copies_small n size
+
 module _ (sizes : List ℕ → Option ℕ) (small : (name : List ℕ) → IsSmall (sizes name)) where
   mutual
     pub least_small : (e : Expression) → IsSmall (least_with sizes e)
@@ -43,7 +51,7 @@ module _ (sizes : List ℕ → Option ℕ) (small : (name : List ℕ) → IsSmal
     least_small (expr.Name name) = small name
     least_small (expr.Union es) = some_small es
     least_small (expr.Prod es) = all_small es
-    least_small (expr.Many kind e card) = tt
+    least_small (expr.Many kind e card) = many_small (fewest kind card) (least_with sizes e)
 
     pub some_small : (es : Expressions) → IsSmall (least_of_some sizes es)
     some_small no_expressions = tt
@@ -107,6 +115,16 @@ together_below None b (Some m) (Some n) h k = absurd h
 together_below (Some x) None (Some m) (Some n) h k = absurd k
 together_below (Some x) (Some y) (Some m) (Some n) h k = omega arith
 
+copies_below : (n : ℕ) (a b : Option ℕ) → IsBelow a b → IsBelow (copies n a) (copies n b)
+copies_below zero a b h = omega arith
+copies_below (suc n) a b h =
+    subst (λ o. IsBelow o (copies (suc n) b)) (sym (copies_more n a))
+    (subst (λ o. IsBelow (together a (copies n a)) o) (sym (copies_more n b)) (together_below a (copies n a) b (copies n b) h (copies_below n a b h)))
+
+many_below : (count a b : Option ℕ) → IsBelow a b → IsBelow (option_and_then (λ n. copies n a) count) (option_and_then (λ n. copies n b) count)
+many_below None a b h = tt
+many_below (Some n) a b h = copies_below n a b h
+
 module _ (lower upper : List ℕ → Option ℕ) (below : (name : List ℕ) → IsBelow (lower name) (upper name)) where
   mutual
     least_below : (e : Expression) → IsBelow (least_with lower e) (least_with upper e)
@@ -115,7 +133,7 @@ module _ (lower upper : List ℕ → Option ℕ) (below : (name : List ℕ) → 
     least_below (expr.Name name) = below name
     least_below (expr.Union es) = some_below es
     least_below (expr.Prod es) = all_below es
-    least_below (expr.Many kind e card) = tt
+    least_below (expr.Many kind e card) = many_below (fewest kind card) (least_with lower e) (least_with upper e) (least_below e)
 
     some_below : (es : Expressions) → IsBelow (least_of_some lower es) (least_of_some upper es)
     some_below no_expressions = tt
@@ -207,7 +225,8 @@ next_of_name rules table name (suc i) right numbered sided =
     one_less : (k : ℕ) → suc k - 1 ≡ k
     one_less k = omega arith
 
-right_of : (rules : Rules) (n : ℕ) → 1 ≤ n → n ≤ length rules → (right : Expression) × (right_side rules n ≡ Some right)
+-- each number of a rule has a right side
+pub right_of : (rules : Rules) (n : ℕ) → 1 ≤ n → n ≤ length rules → (right : Expression) × (right_side rules n ≡ Some right)
 right_of rules zero low high = absurd (omega arith)
 right_of [] (suc i) low high = absurd (omega arith)
 right_of (rule ∷ rules) (suc i) low high =
@@ -226,15 +245,20 @@ ruled rules table name m h = by (symbol rules name) refl h
         let side = right_of rules n within.0 within.1 in
         (n, side.0, e, side.1)
 
+-- the universe allows the Cycles in the rules
+abbrev Allows : Rules → Universe → Type 0
+Allows rules universe = OfNone (HoldsCycle (in_universe rules universe)) rules
+
 -- each size that the table says of a name is that of a structure of it
 abbrev AreSound : Rules → List (Option ℕ) → Type 0
-AreSound rules table = (universe : Universe) → IsSound (in_universe rules universe) (size_of_name rules table)
+AreSound rules table = (universe : Universe) → Allows rules universe → IsSound (in_universe rules universe) (size_of_name rules table)
 
 next_sound : (rules : Rules) (table : List (Option ℕ)) → AreSound rules table → AreSound rules (next_sizes rules table)
-next_sound rules table sound universe name m h =
+next_sound rules table sound universe allows name m h =
     let rule = ruled rules (next_sizes rules table) name m h in
     let found : least_with (size_of_name rules table) rule.1 ≡ Some m = sym (next_of_name rules table name rule.0 rule.1 rule.2 rule.3) ∙ h in
-    name_reached (in_universe rules universe) name rule.0 m rule.1 rule.2 rule.3 (is_reached (in_universe rules universe) (size_of_name rules table) (sound universe) rule.1 m found)
+    name_reached (in_universe rules universe) name rule.0 m rule.1 rule.2 rule.3
+    (is_reached (in_universe rules universe) (size_of_name rules table) (sound universe allows) rule.1 m (right_allowed (in_universe rules universe) rule.0 rule.1 allows rule.3) found)
 
 -- a table with an entry for each rule, whose sizes are those of structures, and which a round makes no greater
 pub record IsReachedTable (rules : Rules) (table : List (Option ℕ)) : Type 0 where
@@ -269,7 +293,7 @@ pub first_table : (rules : Rules) → IsReachedTable rules (nothing_known (lengt
 first_table rules = record {
   for_each = length-replicate {A = Option ℕ} (length rules) None;
   small = nothing_small (length rules);
-  sound = λ universe name m h. let never : None ≡ Some m = sym (nothing_of_name rules (length rules) name) ∙ h in cc;
+  sound = λ universe allows name m h. let never : None ≡ Some m = sym (nothing_of_name rules (length rules) name) ∙ h in cc;
   falls = map_below_none (λ (rule : List ℕ × Expression). least_with (size_of_name rules (nothing_known (length rules))) rule.1) rules;
 }
 
@@ -289,15 +313,14 @@ next_falls rules table h = weights_fall (next_sizes rules table) table (next_sma
 
 -- ---- a table that stays as it is says the least sizes
 
-module _ (rules : Rules) (plain : are_plain rules ≡ true) (table : List (Option ℕ)) (h : IsReachedTable rules table) (stays : next_sizes rules table ≡ table) where
+module _ (rules : Rules) (table : List (Option ℕ)) (h : IsReachedTable rules table) (stays : next_sizes rules table ≡ table) where
   closed : (universe : Universe) → IsClosed (in_universe rules universe) (size_of_name rules table)
   closed universe name n right numbered sided =
       ap (λ t. size_of_name rules t name) (sym stays) ∙ next_of_name rules table name n right numbered sided
 
-  module _ (universe : Universe) (e : Expression) (e_plain : is_plain e ≡ true) where
+  module _ (universe : Universe) (e : Expression) where
     found_for : (s : Structure) → IsOf (in_universe rules universe) e s → IsAtMost (least_with (size_of_name rules table) e) (size s)
-    found_for s of =
-        at_most (in_universe rules universe) (size_of_name rules table) plain (closed universe) s e e_plain (plain_is (in_universe rules universe) e s plain e_plain of)
+    found_for s of = at_most (in_universe rules universe) (size_of_name rules table) (closed universe) s e of
 
     no_structure : least_with (size_of_name rules table) e ≡ None → IsProductive (in_universe rules universe) e → ⊥
     no_structure none productive = let found = found_for productive.0 productive.1 in let never : None ≡ Some found.least = sym none ∙ found.is in cc
@@ -310,38 +333,37 @@ module _ (rules : Rules) (plain : are_plain rules ≡ true) (table : List (Optio
         omega (arith, found.within)
 
     is_least : (n : ℕ) → least_with (size_of_name rules table) e ≡ Some n → IsReached (in_universe rules universe) e n → IsSize (in_universe rules universe) e (Some n)
-    is_least n is one =
-        let of : IsOf (in_universe rules universe) e one.reached = is_plain_of (in_universe rules universe) e one.reached plain e_plain one.is in
-        ((one.reached, of), by (cases_lt n no_least) of)
+    is_least n is one = ((one.reached, one.is), by (cases_lt n no_least))
       where
-        by : (n < no_least) ⊎ (no_least ≤ n) → IsOf (in_universe rules universe) e one.reached → IsLeast (in_universe rules universe) e n
-        by (inl low) of = inl (low, record { smallest = one.reached; is_of = of; has_size = omega (arith, one.has_size); least = none_smaller n is })
-        by (inr high) of =
+        by : (n < no_least) ⊎ (no_least ≤ n) → IsLeast (in_universe rules universe) e n
+        by (inl low) = inl (low, record { smallest = one.reached; is_of = one.is; has_size = omega (arith, one.has_size); least = none_smaller n is })
+        by (inr high) =
             let same : n ≡ no_least = omega (arith, one.has_size) in
             inr (same, λ s of. subst (λ k. k ≤ size s) same (none_smaller n is s of))
 
-    is_size_of : (o : Option ℕ) → least_with (size_of_name rules table) e ≡ o → IsSize (in_universe rules universe) e o
-    is_size_of None is = no_structure is
-    is_size_of (Some n) is = is_least n is (is_reached (in_universe rules universe) (size_of_name rules table) (h.sound universe) e n is)
+    module _ (allows : Allows rules universe) (allowed : may_hold_cycles (in_universe rules universe) e ≡ true) where
+      is_size_of : (o : Option ℕ) → least_with (size_of_name rules table) e ≡ o → IsSize (in_universe rules universe) e o
+      is_size_of None is = no_structure is
+      is_size_of (Some n) is = is_least n is (is_reached (in_universe rules universe) (size_of_name rules table) (h.sound universe allows) e n allowed is)
 
   pub are_sizes : AreSizes rules table
-  are_sizes = record { for_each = h.for_each; each = λ universe e e_plain. is_size_of universe e e_plain (least_with (size_of_name rules table) e) refl }
+  are_sizes = record { for_each = h.for_each; each = λ universe e allows allowed. is_size_of universe e allows allowed (least_with (size_of_name rules table) e) refl }
 
 -- ---- such a table is reached
 
-from_table : (rules : Rules) → are_plain rules ≡ true → (most : ℕ) (table : List (Option ℕ)) → IsReachedTable rules table → weight_of_all table < most
+from_table : (rules : Rules) (most : ℕ) (table : List (Option ℕ)) → IsReachedTable rules table → weight_of_all table < most
     → (sizes : List (Option ℕ)) × AreSizes rules sizes
-from_table rules plain zero table h low = absurd (omega arith)
-from_table rules plain (suc most) table h low = elim (next_falls rules table h) [
-  | inl falls ↦ from_table rules plain most (next_sizes rules table) (next_table rules table h) (omega arith)
-  | inr stays ↦ (table, are_sizes rules plain table h stays)
+from_table rules zero table h low = absurd (omega arith)
+from_table rules (suc most) table h low = elim (next_falls rules table h) [
+  | inl falls ↦ from_table rules most (next_sizes rules table) (next_table rules table h) (omega arith)
+  | inr stays ↦ (table, are_sizes rules table h stays)
 ]
 
 -- there is a table of the least sizes
-pub sizes_exist : (rules : Rules) → IsTrue (are_plain rules) → (table : List (Option ℕ)) × AreSizes rules table
-sizes_exist rules plain =
+pub sizes_exist : (rules : Rules) → (table : List (Option ℕ)) × AreSizes rules table
+sizes_exist rules =
     let first : List (Option ℕ) = nothing_known (length rules) in
-    from_table rules plain (suc (weight_of_all first)) first (first_table rules) (omega arith)
+    from_table rules (suc (weight_of_all first)) first (first_table rules) (omega arith)
 
 -- a round that is not the table before it has a smaller sum
 pub changed_falls : (rules : Rules) (table : List (Option ℕ)) → IsReachedTable rules table → (next_sizes rules table ≡ table → ⊥) → weight_of_all (next_sizes rules table) < weight_of_all table

@@ -1,6 +1,9 @@
 pub mod SetsLaws
 pub mod NodesLaws
 pub mod NodeSteps
+pub mod CyclesLaws
+pub mod ManyLaws
+pub mod ContainerSteps
 pub mod LeastLaws
 pub mod LeastReached
 pub mod LeastRounds

@@ -1,5 +1,5 @@
 -- What stands in the tables of a grammar's nodes.
-use Rattle.std.proofs.Common.{◌≡◌, ℕ, zero, suc, ◌+◌, ◌-◌, ◌<◌, ◌≤◌, List, [], ◌∷◌, length, get_or, take, slice_get, Option, Some, None, option_map, option_and_then, unwrap_or, refl, sym, ap, ◌∙◌, arith, length-append}
+use Rattle.std.proofs.Common.{◌≡◌, true, true≢false, ℕ, zero, suc, ◌+◌, ◌-◌, ◌<◌, ◌≤◌, List, [], ◌∷◌, length, get_or, take, slice_get, Option, Some, None, option_map, option_and_then, unwrap_or, refl, sym, ap, ◌∙◌, arith, length-append}
 use Rattle.std.specs.Option.{option_map_or, option_or}
 use Rattle.std.proofs.lemmas.Option.{slice_get_within, slice_get_read}
 use Rattle.spec_syntax.specs.declared.expr.Kind.TheVariants as kind
@@ -12,8 +12,8 @@ use Rattle.well_founded.specs.declared.node.NodeKind.TheVariants as told
 use Rattle.well_founded.specs.Names.{name_without_rule, undefined_name}
 use Rattle.well_founded.specs.Nodes.{node_at, right_node, children_of}
 use Rattle.well_founded.specs.NodeView.{arguments_of}
-use Rattle.well_founded.specs.NodeKinds.{kind_of, name_of, name_at, children_at, arguments_at}
-use Rattle.well_founded.specs.NodeTable.{node_kind, node_children, node_rule, node_of, nodes_from, nodes_of, right_nodes_from}
+use Rattle.well_founded.specs.NodeKinds.{kind_of, is_container, card_of, card_at, name_of, name_at, children_at, arguments_at}
+use Rattle.well_founded.specs.NodeTable.{node_kind, node_children, node_rule, node_card, node_of, nodes_from, nodes_of, right_nodes_from}
 use Rattle.well_founded.proofs.NodesLaws.{child_node, child_is, children_few, right_node_is, name_node_rule}
 use Rattle.well_founded.proofs.NodeSteps.{length-nodes_from}
 
@@ -54,6 +54,15 @@ is_name (expr.Many kind.Sequence element card) h = absurd (cc)
 is_name (expr.Many kind.Set element card) h = absurd (cc)
 is_name (expr.Many kind.PowerSet element card) h = absurd (cc)
 is_name (expr.Many kind.Cycle element card) h = absurd (cc)
+
+-- a container's node has its bound
+many_card : (rules : Rules) (n : ℕ) (e : Expression) → is_container (kind_of e) ≡ true → card_of e ≡ Some (node_card (node_of rules n e))
+many_card rules n expr.Epsilon h = absurd (true≢false (sym h))
+many_card rules n expr.Atom h = absurd (true≢false (sym h))
+many_card rules n (expr.Name name) h = absurd (true≢false (sym h))
+many_card rules n (expr.Union es) h = absurd (true≢false (sym h))
+many_card rules n (expr.Prod es) h = absurd (true≢false (sym h))
+many_card rules n (expr.Many kind element card) h = refl
 
 all_named : (rules : Rules) → undefined_name rules None ≡ None → name_without_rule rules ≡ None
 all_named rules h = by (name_without_rule rules) refl h
@@ -113,6 +122,13 @@ module _ (rules : Rules) (table : List Node) (is : table ≡ nodes_of rules) whe
   table_children_few n x within read =
       let node = table_node n x within read in
       omega (arith, ap length (ap node_children node.is ∙ children-node_of rules n node.e), children_few rules n node.e node.at)
+
+  pub table_card : (n : ℕ) (x : Node) → n < length (all_nodes rules) → x ≡ get_or table n x → option_map is_container (option_map kind_of (node_at rules n)) ≡ Some true
+      → card_at rules n ≡ Some (node_card x)
+  table_card n x within read told_is =
+      let node = table_node n x within read in
+      let told : Some (is_container (kind_of node.e)) ≡ Some true = sym (ap (λ found. option_map is_container (option_map kind_of found)) node.at) ∙ told_is in
+      ap (option_and_then card_of) node.at ∙ many_card rules n node.e (cc) ∙ ap (λ (y : Node). Some (node_card y)) (sym node.is)
 
   pub table_rule : (n : ℕ) (x : Node) → n < length (all_nodes rules) → x ≡ get_or table n x → undefined_name rules None ≡ None
       → option_map kind_of (node_at rules n) ≡ Some told.Rule → option_and_then (symbol rules) (name_at rules n) ≡ Some (node_rule x)

@@ -1,6 +1,6 @@
 -- The numbers of nodes: what stands at the nodes inside an expression, at those below it and at a rule's right side.
 use Rattle.std.proofs.Common.{◌≡◌, ◌⊎◌, ℕ, zero, suc, ◌+◌, ◌<◌, Bool, true, false, not, cond, List, [], ◌∷◌, ◌++◌, length, take, slice_get, Option, Some, None, option_map, is_some, find, refl, sym, ap, ◌∙◌, subst, inl, inr, arith, length-append, true≢false, ◌≤◌}
-use Rattle.std.specs.List.{list_all, flat_map, position_from}
+use Rattle.std.specs.List.{list_all, position_from}
 use Rattle.std.specs.Option.{option_map_or}
 use Rattle.std.proofs.lemmas.Bool.{and_parts, and_from}
 use Rattle.std.proofs.lemmas.Option.{slice_get_within}
@@ -8,7 +8,8 @@ use Rattle.spec_syntax.specs.Expression as expr
 use Rattle.spec_syntax.specs.Expression.{Expression, Expressions, no_expressions, more_expressions, expression_list, preorder, preorder_of_all, nodes}
 use Rattle.spec_syntax.specs.Rules.{Rules, is_same_name, symbol, right_side, all_nodes}
 use Rattle.struct_model.specs.Listing.{IsIn}
-use Rattle.well_founded.specs.Names.{name_in, used_names, names_used_in, has_rule, name_without_rule, is_no_container, is_plain, are_plain}
+use Rattle.struct_model.proofs.Enumerated.{in_flat_map, from_flat_map}
+use Rattle.well_founded.specs.Names.{name_in, used_names, names_used_in, has_rule, name_without_rule}
 use Rattle.well_founded.specs.Nodes.{node_at, right_node, places_from, children_of, below}
 use Rattle.well_founded.specs.NodeView.{arguments_of}
 
@@ -72,20 +73,6 @@ module _ {X : Type 0} where
   get_of_in [] x h = absurd h
   get_of_in (y ∷ xs) x (inl same) = (0, ap Some (sym same))
   get_of_in (y ∷ xs) x (inr there) = let found = get_of_in xs x there in (suc found.0, found.1)
-
-  pub in_left : (x : X) (xs ys : List X) → IsIn x xs → IsIn x (xs ++ ys)
-  in_left x [] ys h = absurd h
-  in_left x (y ∷ xs) ys (inl same) = inl same
-  in_left x (y ∷ xs) ys (inr there) = inr (in_left x xs ys there)
-
-  pub in_either : (x : X) (xs ys : List X) → IsIn x (xs ++ ys) → IsIn x xs ⊎ IsIn x ys
-  in_either x [] ys h = inr h
-  in_either x (y ∷ xs) ys (inl same) = inl (inl same)
-  in_either x (y ∷ xs) ys (inr there) = elim (in_either x xs ys there) [ inl here ↦ inl (inr here) | inr behind ↦ inr behind ]
-
-  pub in_right : (x : X) (xs ys : List X) → IsIn x ys → IsIn x (xs ++ ys)
-  in_right x [] ys h = h
-  in_right x (y ∷ xs) ys h = inr (in_right x xs ys h)
 
   -- what all elements pass each of them passes
   pub passes : (test : X → Bool) (x : X) (xs : List X) → list_all test xs ≡ true → IsIn x xs → test x ≡ true
@@ -330,7 +317,8 @@ in_nodes rules n e at = in_of_get (all_nodes rules) n e at
 pub node_of : (rules : Rules) (e : Expression) → IsIn e (all_nodes rules) → (n : ℕ) × (node_at rules n ≡ Some e)
 node_of rules e h = get_of_in (all_nodes rules) e h
 
-all_of_rules : (test : Expression → Bool) (rules : Rules) → list_all (λ (rule : List ℕ × Expression). list_all test (preorder rule.1)) rules ≡ true → list_all test (all_nodes rules) ≡ true
+-- what all expressions in the rules pass all nodes pass
+pub all_of_rules : (test : Expression → Bool) (rules : Rules) → list_all (λ (rule : List ℕ × Expression). list_all test (preorder rule.1)) rules ≡ true → list_all test (all_nodes rules) ≡ true
 all_of_rules test [] h = refl
 all_of_rules test (rule ∷ rules) h =
     let both : (list_all test (preorder rule.1) ≡ true) × (list_all (λ (other : List ℕ × Expression). list_all test (preorder other.1)) rules ≡ true) = and_parts _ _ h in
@@ -340,31 +328,14 @@ all_of_rules test (rule ∷ rules) h =
     joined [] ys first others = others
     joined (x ∷ xs) ys first others = let parts = and_parts (test x) (list_all test xs) first in and_from _ _ parts.0 (joined xs ys parts.1 others)
 
--- no container stands in the expression of a node where none stands in the rules
-pub node_plain : (rules : Rules) (n : ℕ) (e : Expression) → are_plain rules ≡ true → node_at rules n ≡ Some e → is_plain e ≡ true
-node_plain rules n e plain at =
-    all_pass is_no_container (all_nodes rules) n (preorder e) (node_stands rules n e at) (all_of_rules is_no_container rules plain)
-
-pub in_flat_map : {X Y : Type 0} (f : X → List Y) (xs : List X) (y : Y) → IsIn y (flat_map f xs) → (x : X) × IsIn x xs × IsIn y (f x)
-in_flat_map f [] y h = absurd h
-in_flat_map f (x ∷ xs) y h = elim (in_either y (f x) (flat_map f xs) h) [
-  | inl here ↦ (x, inl refl, here)
-  | inr there ↦ let found = in_flat_map f xs y there in (found.0, inr found.1, found.2)
-]
-
-pub flat_map_has : {X Y : Type 0} (f : X → List Y) (xs : List X) (x : X) (y : Y) → IsIn x xs → IsIn y (f x) → IsIn y (flat_map f xs)
-flat_map_has f [] x y there h = absurd there
-flat_map_has f (z ∷ xs) x y (inl same) h = in_left y (f z) (flat_map f xs) (subst (λ w. IsIn y (f w)) same h)
-flat_map_has f (z ∷ xs) x y (inr there) h = in_right y (f z) (flat_map f xs) (flat_map_has f xs x y there h)
-
 -- a name in the expression of a node is one of those that the rules use
 pub node_uses : (rules : Rules) (n : ℕ) (e : Expression) (name : List ℕ) → node_at rules n ≡ Some e → IsIn name (used_names e) → IsIn name (names_used_in rules)
 node_uses rules n e name at h =
-    let word : (x : Expression) × IsIn x (preorder e) × IsIn name (name_in x) = in_flat_map name_in (preorder e) name h in
+    let word : (x : Expression) × IsIn x (preorder e) × IsIn name (name_in x) = from_flat_map name_in (preorder e) name h in
     let place : (i : ℕ) × (slice_get (preorder e) i ≡ Some word.0) = get_of_in (preorder e) word.0 word.1 in
     let inside : IsIn word.0 (all_nodes rules) = in_of_get (all_nodes rules) (n + place.0) word.0 ((node_stands rules n e at).at place.0 (n + place.0) word.0 refl place.1) in
-    let rule : (r : List ℕ × Expression) × IsIn r rules × IsIn word.0 (preorder r.1) = in_flat_map (λ (r : List ℕ × Expression). preorder r.1) rules word.0 inside in
-    flat_map_has (λ (r : List ℕ × Expression). used_names r.1) rules rule.0 name rule.1 (flat_map_has name_in (preorder rule.0.1) word.0 name rule.2 word.2)
+    let rule : (r : List ℕ × Expression) × IsIn r rules × IsIn word.0 (preorder r.1) = from_flat_map (λ (r : List ℕ × Expression). preorder r.1) rules word.0 inside in
+    in_flat_map (λ (r : List ℕ × Expression). used_names r.1) rule.0 rules name rule.1 (in_flat_map name_in word.0 (preorder rule.0.1) name rule.2 word.2)
 
 pub found_none : {X : Type 0} (test : X → Bool) (x : X) (xs : List X) → find test xs ≡ None → IsIn x xs → test x ≡ false
 found_none test x [] none h = absurd h

@@ -1,7 +1,6 @@
 -- Where no rule holds itself no node of the graph of one size leads to itself, and the numbers of nodes that nodes lead to
 -- are ranks.
 use Rattle.std.proofs.Common.{◌≡◌, ◌⊎◌, inl, inr, ℕ, zero, suc, ◌<◌, true, List, [], ◌∷◌, length, refl, sym, ap, ◌∙◌, subst, arith, slice_get, Option, Some, None}
-use Rattle.std.specs.Prelude.{IsTrue}
 use Rattle.std.specs.Option.{option_map_or}
 use Rattle.std.specs.Cmp.Lexicographic.{same_text}
 use Rattle.std.proofs.lemmas.Option.{slice_get_within}
@@ -10,21 +9,20 @@ use Rattle.spec_syntax.specs.Expression.{Expression}
 use Rattle.spec_syntax.specs.Rules.{Rules, is_same_name, symbol, all_nodes}
 use Rattle.spec_syntax.specs.Grammar.{Grammar}
 use Rattle.struct_model.specs.Listing.{IsIn}
-use Rattle.well_founded.specs.Names.{is_plain, are_plain}
 use Rattle.well_founded.specs.Least.{IsSize, least_with, size_of_name}
-use Rattle.well_founded.specs.WellFounded.{OfNone, IsEndless, IsEachProductive, IsWellFounded}
+use Rattle.well_founded.specs.WellFounded.{may_hold_cycles, HoldsCycle, HoldsNull, OfNone, IsEndless, IsEachProductive, IsWellFounded}
 use Rattle.well_founded.specs.Nodes.{node_at, right_node, below}
 use Rattle.well_founded.specs.Rank.{CanFill, AreRanks}
 use Rattle.well_founded.specs.Graph.{Graph, next, LeadsBy, Leads, IsGraph, count_true, IsCount, AreCounts}
 use Rattle.well_founded.specs.SameSize.{followers_from, same_size_graph}
-use Rattle.well_founded.proofs.SetsLaws.{plain_is}
-use Rattle.well_founded.proofs.NodesLaws.{in_of_get, found_rule, node_plain}
+use Rattle.well_founded.proofs.CyclesLaws.{node_allowed}
+use Rattle.well_founded.proofs.NodesLaws.{in_of_get, found_rule}
 use Rattle.well_founded.proofs.GraphLaws.{step_leads, leads_trans}
 use Rattle.well_founded.proofs.GraphCounts.{count_falls, count_within, counts_exist}
 use Rattle.well_founded.proofs.SameSizeLaws.{fills}
 use Rattle.well_founded.proofs.SameSizeSteps.{IsStep, from_step, step_at}
 use Rattle.well_founded.proofs.SameSizeRoots.{child_within}
-use Rattle.well_founded.proofs.EndlessLaws.{leads_holds}
+use Rattle.well_founded.proofs.EndlessLaws.{node_full, leads_holds}
 use Rattle.well_founded.proofs.LeastRounds.{sizes_exist}
 
 followers-length : (rules : Rules) (sizes : Expression → Option ℕ) (n : ℕ) (es : List Expression) → length (followers_from rules sizes n es) ≡ length es
@@ -37,8 +35,7 @@ own_name rules name r numbered =
     let found = found_rule (λ rule. is_same_name rule.0 name) rules 1 r numbered in
     (found.1.1, subst (λ (own : List ℕ). IsIn (own, found.1.1) rules) (same_text found.1.0 name (sym found.4)) (in_of_get rules found.0 found.1 found.3))
 
-module _ (g : Grammar) (sizes : Expression → Option ℕ) (plain : are_plain g.rules ≡ true)
-    (sized : (e : Expression) → is_plain e ≡ true → IsSize g e (sizes e)) where
+module _ (g : Grammar) (sizes : Expression → Option ℕ) where
   abbrev graph : Graph
   graph = same_size_graph g.rules sizes
 
@@ -48,7 +45,7 @@ module _ (g : Grammar) (sizes : Expression → Option ℕ) (plain : are_plain g.
 
   pub is_graph : IsGraph graph
   is_graph i j step =
-      let found = from_step g.rules sizes plain i j step in
+      let found = from_step g.rules sizes i j step in
       let within = slice_get_within (all_nodes g.rules) j found.inside found.at_inside in
       omega (arith, graph-length)
 
@@ -66,8 +63,8 @@ module _ (g : Grammar) (sizes : Expression → Option ℕ) (plain : are_plain g.
   step_up_or_root : (i j : ℕ) → IsIn j (next graph i) → (i < j) ⊎ IsRoot j
   step_up_or_root i j step = by found.outer found.there
     where
-      found : IsStep g.rules sizes plain i j
-      found = from_step g.rules sizes plain i j step
+      found : IsStep g.rules sizes i j
+      found = from_step g.rules sizes i j step
 
       by : (e : Expression) → slice_get (below g.rules i e) found.place ≡ Some j → (i < j) ⊎ IsRoot j
       by (expr.Name name) there = inr (name_root name (symbol g.rules name) found.place j refl there)
@@ -124,17 +121,18 @@ module _ (g : Grammar) (sizes : Expression → Option ℕ) (plain : are_plain g.
       never : (k : ℕ) → k < k → ⊥
       never k h = omega arith
 
-  module _ (productive : IsEachProductive g) (finite : OfNone (IsEndless g) g.rules) where
+  module _ (allows : OfNone (HoldsCycle g) g.rules) (sized : (e : Expression) → may_hold_cycles g e ≡ true → IsSize g e (sizes e)) (productive : IsEachProductive g)
+      (finite : OfNone (IsEndless g) g.rules) where
     -- where no rule holds itself, no node leads to itself
     pub no_way_round : (n : ℕ) → Leads graph n n → ⊥
     no_way_round n way =
         let found = round n way in
         let own = own_name g.rules found.1 found.0 found.2 in
-        finite found.1 own.0 own.1 (leads_holds g sizes plain sized found.1 found.0 found.2 (productive found.1 own.0 own.1) found.3)
+        finite found.1 own.0 own.1 (leads_holds g sizes allows sized found.1 found.0 found.2 (productive found.1 own.0 own.1) found.3)
 
     -- then how many nodes each one leads to are ranks
-    pub are_ranks : (counts : List ℕ) → AreCounts graph counts → AreRanks g counts
-    are_ranks counts counted = record {
+    pub are_ranks : (full : OfNone (HoldsNull g) g.rules) (counts : List ℕ) → AreCounts graph counts → AreRanks g counts
+    are_ranks full counts counted = record {
       for_each = counted.for_each ∙ graph-length;
       each = λ n r e at ranked. record {
         within = within n r e at (counted.each n r ranked);
@@ -151,19 +149,18 @@ module _ (g : Grammar) (sizes : Expression → Option ℕ) (plain : are_plain g.
         falls : (n r : ℕ) (e : Expression) → node_at g.rules n ≡ Some e → IsCount graph n r → (place m s : ℕ) (f : Expression) → slice_get (below g.rules n e) place ≡ Some m
             → IsCount graph m s → CanFill g e place f → s < r
         falls n r e at h place m s f there low fill =
-            let bare = node_plain g.rules n e plain at in
-            let flagged = fills g sizes plain sized e fill.outer place fill.inner bare (plain_is g e fill.outer plain bare fill.is_outer) fill.stands fill.same_size in
-            let step = step_at g.rules sizes plain n e place m at flagged.3 there in
+            let flagged = fills g sizes sized e fill.outer place fill.inner (node_allowed g n e allows at) (node_full g n e full at) fill.is_outer fill.stands fill.same_size in
+            let step = step_at g.rules sizes n e place m at flagged.3 there in
             let fewer : count_true low.marks < count_true h.marks = count_falls graph n m h.marks low.marks h.reached low.reached (zero, step) (no_way_round m) in
             omega (arith, h.counted, low.counted)
 
 -- ---- ranks are there
 
 -- the nodes of a well-founded grammar have ranks
-pub ranks_exist : (g : Grammar) → IsTrue (are_plain g.rules) → IsWellFounded g → (ranks : List ℕ) × AreRanks g ranks
-ranks_exist g plain founded =
-    let table = sizes_exist g.rules plain in
+pub ranks_exist : (g : Grammar) → IsWellFounded g → (ranks : List ℕ) × AreRanks g ranks
+ranks_exist g founded =
+    let table = sizes_exist g.rules in
     let sizes : Expression → Option ℕ = least_with (size_of_name g.rules table.0) in
-    let sized : (e : Expression) → is_plain e ≡ true → IsSize g e (sizes e) = λ e bare. table.1.each g.universe e bare in
-    let counts = counts_exist (same_size_graph g.rules sizes) (is_graph g sizes plain sized) in
-    (counts.0, are_ranks g sizes plain sized founded.productive founded.finite counts.0 counts.1)
+    let sized : (e : Expression) → may_hold_cycles g e ≡ true → IsSize g e (sizes e) = λ e allowed. table.1.each g.universe e founded.no_cycles allowed in
+    let counts = counts_exist (same_size_graph g.rules sizes) (is_graph g sizes) in
+    (counts.0, are_ranks g sizes founded.no_cycles sized founded.productive founded.finite founded.no_null_elements counts.0 counts.1)

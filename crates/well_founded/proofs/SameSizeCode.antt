@@ -5,7 +5,7 @@ use Rattle.std.specs.Option.{option_map_or, option_and_then}
 use Rattle.std.proofs.lemmas.List.{drop_more, drop_all, append-nil}
 use Rattle.std.proofs.lemmas.Bool.{cases_lt}
 use Rattle.spec_syntax.specs.Expression as expr
-use Rattle.spec_syntax.specs.Expression.{Expression, preorder, preorder_of_all, nodes, expressions_of, expression_list}
+use Rattle.spec_syntax.specs.Expression.{Expression, preorder, nodes, expressions_of, expression_list}
 use Rattle.spec_syntax.specs.Rules.{Rules, symbol, right_side, all_nodes}
 use Rattle.well_founded.specs.Graph.{Graph}
 use Rattle.well_founded.specs.Nodes.{right_node}

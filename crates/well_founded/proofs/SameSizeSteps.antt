@@ -6,12 +6,11 @@ use Rattle.spec_syntax.specs.Expression as expr
 use Rattle.spec_syntax.specs.Expression.{Expression, Expressions, no_expressions, more_expressions, expression_list, nodes}
 use Rattle.spec_syntax.specs.Rules.{Rules, symbol, right_side, all_nodes}
 use Rattle.struct_model.specs.Listing.{IsIn}
-use Rattle.well_founded.specs.Names.{is_plain, are_plain}
 use Rattle.well_founded.specs.Nodes.{node_at, right_node, places_from, children_of, below}
 use Rattle.well_founded.specs.NodeView.{arguments_of}
 use Rattle.well_founded.specs.Graph.{Graph, next}
 use Rattle.well_founded.specs.SameSize.{fillable, picked, followers, followers_from, same_size_graph}
-use Rattle.well_founded.proofs.NodesLaws.{node_stands, stands_at, child_stands, right_node_is, symbol_right, node_plain}
+use Rattle.well_founded.proofs.NodesLaws.{node_stands, stands_at, child_stands, right_node_is, symbol_right}
 use Rattle.well_founded.proofs.SameSizeLaws.{inner}
 
 -- ---- what is picked
@@ -61,14 +60,15 @@ child_inner rules n e place m at child =
     (found.0, found.1, stands_at (all_nodes rules) m found.0 found.2)
 
 -- at a node below one stands the expression of the place
-below_inner : (rules : Rules) (n : ℕ) (e : Expression) (place m : ℕ) → is_plain e ≡ true → node_at rules n ≡ Some e → slice_get (below rules n e) place ≡ Some m → Inner rules e place m
-below_inner rules n expr.Epsilon place m bare at there = absurd (cc)
-below_inner rules n expr.Atom place m bare at there = absurd (cc)
-below_inner rules n (expr.Name name) zero m bare at there = name_inner rules (symbol rules name) name refl m there
-below_inner rules n (expr.Name name) (suc place) m bare at there = absurd (name_beyond rules (symbol rules name) place m there)
-below_inner rules n (expr.Union es) place m bare at there = child_inner rules n (expr.Union es) place m at there
-below_inner rules n (expr.Prod es) place m bare at there = child_inner rules n (expr.Prod es) place m at there
-below_inner rules n (expr.Many kind element card) place m bare at there = absurd (cc)
+below_inner : (rules : Rules) (n : ℕ) (e : Expression) (place m : ℕ) → node_at rules n ≡ Some e → slice_get (below rules n e) place ≡ Some m → Inner rules e place m
+below_inner rules n expr.Epsilon place m at there = absurd (cc)
+below_inner rules n expr.Atom place m at there = absurd (cc)
+below_inner rules n (expr.Name name) zero m at there = name_inner rules (symbol rules name) name refl m there
+below_inner rules n (expr.Name name) (suc place) m at there = absurd (name_beyond rules (symbol rules name) place m there)
+below_inner rules n (expr.Union es) place m at there = child_inner rules n (expr.Union es) place m at there
+below_inner rules n (expr.Prod es) place m at there = child_inner rules n (expr.Prod es) place m at there
+below_inner rules n (expr.Many kind element card) zero m at there = child_inner rules n (expr.Many kind element card) zero m at there
+below_inner rules n (expr.Many kind element card) (suc place) m at there = absurd (cc)
 
 name_below : (rules : Rules) (found : Option ℕ) (f : Expression) → option_and_then (right_side rules) found ≡ Some f
     → (m : ℕ) × (slice_get (option_map_or (λ number. right_node rules number ∷ []) found []) 0 ≡ Some m)
@@ -83,11 +83,12 @@ inner_below rules n (expr.Name name) zero f at = name_below rules (symbol rules 
 inner_below rules n (expr.Name name) (suc place) f at = absurd (cc)
 inner_below rules n (expr.Union es) place f at = place_there (n + 1) es place f at
 inner_below rules n (expr.Prod es) place f at = place_there (n + 1) es place f at
-inner_below rules n (expr.Many kind element card) place f at = absurd (cc)
+inner_below rules n (expr.Many kind element card) zero f at = (n + 1, refl)
+inner_below rules n (expr.Many kind element card) (suc place) f at = absurd (cc)
 
 -- ---- steps
 
-module _ (rules : Rules) (sizes : Expression → Option ℕ) (plain : are_plain rules ≡ true) where
+module _ (rules : Rules) (sizes : Expression → Option ℕ) where
   followers_at : (k : ℕ) (es : List Expression) (i n : ℕ) (e : Expression) → k + i ≡ n → slice_get es i ≡ Some e
       → slice_get (followers_from rules sizes k es) i ≡ Some (followers rules sizes n e)
   followers_at k [] i n e number at = absurd (cc)
@@ -116,7 +117,6 @@ module _ (rules : Rules) (sizes : Expression → Option ℕ) (plain : are_plain 
     pub outer : Expression
     pub inside : Expression
     pub place : ℕ
-    pub bare : is_plain outer ≡ true
     pub at_outer : node_at rules n ≡ Some outer
     pub at_inside : node_at rules m ≡ Some inside
     pub filled : slice_get (fillable rules sizes outer) place ≡ Some true
@@ -129,14 +129,12 @@ module _ (rules : Rules) (sizes : Expression → Option ℕ) (plain : are_plain 
       by : (o : Option Expression) → node_at rules n ≡ o → IsStep n m
       by None none = absurd (subst (IsIn m) (next_none n none) step)
       by (Some e) at =
-          let bare = node_plain rules n e plain at in
           let found = picked_from (fillable rules sizes e) (below rules n e) m (subst (IsIn m) (next_is n e at) step) in
-          let below_is = below_inner rules n e found.0 m bare at found.2 in
+          let below_is = below_inner rules n e found.0 m at found.2 in
           record {
             outer = e;
             inside = below_is.0;
             place = found.0;
-            bare = bare;
             at_outer = at;
             at_inside = below_is.2;
             filled = found.1;
@@ -153,7 +151,6 @@ module _ (rules : Rules) (sizes : Expression → Option ℕ) (plain : are_plain 
       → (m : ℕ) × IsIn m (next graph n) × (node_at rules m ≡ Some f)
   to_step n e place f at filled is_inner =
       let found = inner_below rules n e place f is_inner in
-      let bare = node_plain rules n e plain at in
-      let below_is = below_inner rules n e place found.0 bare at found.1 in
+      let below_is = below_inner rules n e place found.0 at found.1 in
       let same : below_is.0 ≡ f = same_Some below_is.0 f (sym below_is.1 ∙ is_inner) in
       (found.0, step_at n e place found.0 at filled found.1, subst (λ (h : Expression). node_at rules found.0 ≡ Some h) same below_is.2)

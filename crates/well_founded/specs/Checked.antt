@@ -4,7 +4,6 @@ use Rattle.spec_syntax.specs.declared.statement.Universe.{Universe}
 use Rattle.spec_syntax.specs.Expression.{Expression}
 use Rattle.spec_syntax.specs.Rules.{Rules, is_spec, all_nodes}
 use Rattle.spec_syntax.specs.Grammar.{Grammar}
-use Rattle.well_founded.specs.Names.{are_plain}
 use Rattle.well_founded.specs.Sizes.{IsLeast}
 use Rattle.well_founded.specs.WellFounded.{IsWellFounded}
 use Rattle.well_founded.specs.Nodes.{node_at}
@@ -30,7 +29,6 @@ pub record AreLeasts (g : Grammar) (leasts : List ℕ) : Type 0 where
 -- it passed the check
 pub record IsChecked (checked : Checked) : Type 0 where
   pub spec : IsTrue (is_spec checked.rules)
-  pub plain : IsTrue (are_plain checked.rules)
   pub well_founded : IsWellFounded (grammar checked)
   pub least : AreLeasts (grammar checked) checked.leasts
   pub ranked : AreRanks (grammar checked) checked.ranks

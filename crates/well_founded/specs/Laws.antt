@@ -3,12 +3,11 @@ use Rattle.std.specs.Prelude.{◌≡◌, List, ℕ, Option, IsTrue}
 use Rattle.spec_syntax.specs.Rules.{is_spec}
 use Rattle.spec_syntax.specs.Grammar.{Grammar}
 use Rattle.well_founded.specs.declared.refused.Refused.{Refused}
-use Rattle.well_founded.specs.Names.{are_plain}
 use Rattle.well_founded.specs.WellFounded.{Checks}
 
--- the check of a grammar and a class symbol says something
+-- the check of a specification and a class symbol says something
 abbrev pub SaysSome : Type 0
-SaysSome = (g : Grammar) (start : Option (List ℕ)) → IsTrue (is_spec g.rules) → IsTrue (are_plain g.rules) → (said : Option Refused) × Checks g start said
+SaysSome = (g : Grammar) (start : Option (List ℕ)) → IsTrue (is_spec g.rules) → (said : Option Refused) × Checks g start said
 
 -- and no two things
 abbrev pub SaysOne : Type 0

@@ -10,6 +10,7 @@ pub mod Least
 pub mod Graph
 pub mod Laws
 pub mod SameSize
+pub mod Containers
 pub mod NodeView
 pub mod NodeKinds
 pub mod NodeTable

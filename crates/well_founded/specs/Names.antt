@@ -1,8 +1,8 @@
 -- The names that rules use, and those without a rule.
-use Rattle.std.specs.Prelude.{ℕ, Bool, true, false, not, List, [], ◌∷◌, Option, Some, None, is_some, if◌then◌else◌, find}
+use Rattle.std.specs.Prelude.{ℕ, Bool, not, List, [], ◌∷◌, Option, Some, None, is_some, if◌then◌else◌, find}
 use Rattle.std.specs.Option.{option_or}
-use Rattle.std.specs.List.{list_all, flat_map}
-use Rattle.spec_syntax.specs.Expression.{Expression, Name, Many, preorder}
+use Rattle.std.specs.List.{flat_map}
+use Rattle.spec_syntax.specs.Expression.{Expression, Name, preorder}
 use Rattle.spec_syntax.specs.Rules.{Rules, symbol}
 
 -- the name, where the expression is one
@@ -33,16 +33,3 @@ symbol_without_rule rules (Some start) = if has_rule rules start then None else 
 -- the first name in written order that has no rule. The class symbol stands last
 abbrev pub undefined_name : Rules → Option (List ℕ) → Option (List ℕ)
 undefined_name rules start = option_or (name_without_rule rules) (symbol_without_rule rules start)
-
--- is the expression itself no container
-abbrev pub is_no_container : Expression → Bool
-is_no_container (Many kind element card) = false
-is_no_container e = true
-
--- does no container stand in the expression
-abbrev pub is_plain : Expression → Bool
-is_plain e = list_all is_no_container (preorder e)
-
--- does no container stand in the rules
-abbrev pub are_plain : Rules → Bool
-are_plain rules = list_all (λ rule. is_plain rule.1) rules

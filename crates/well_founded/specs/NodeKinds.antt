@@ -1,8 +1,9 @@
 -- What a node is, and what stands directly inside it.
-use Rattle.std.specs.Prelude.{ℕ, List, [], Option, Some, None}
+use Rattle.std.specs.Prelude.{ℕ, Bool, true, false, List, [], Option, Some, None}
 use Rattle.std.specs.Option.{option_map_or, option_and_then}
 use Rattle.spec_syntax.specs.declared.expr.Kind.{Kind}
 use Rattle.spec_syntax.specs.declared.expr.Kind.TheVariants as kind
+use Rattle.spec_syntax.specs.declared.expr.Card.{Card}
 use Rattle.spec_syntax.specs.Expression as expr
 use Rattle.spec_syntax.specs.Expression.{Expression}
 use Rattle.spec_syntax.specs.Rules.{Rules}
@@ -26,6 +27,23 @@ kind_of (expr.Name name) = told.Rule
 kind_of (expr.Union arguments) = told.Union
 kind_of (expr.Prod arguments) = told.Prod
 kind_of (expr.Many kind element card) = container kind
+
+-- is it one of the four containers
+abbrev pub is_container : NodeKind → Bool
+is_container told.Sequence = true
+is_container told.Set = true
+is_container told.PowerSet = true
+is_container told.Cycle = true
+is_container kind = false
+
+-- the bound on the number of components, where the expression is a container
+abbrev pub card_of : Expression → Option Card
+card_of (expr.Many kind element card) = Some card
+card_of e = None
+
+-- the bound of the container that node number n is, where it is one
+abbrev pub card_at : Rules → ℕ → Option Card
+card_at rules n = option_and_then card_of (node_at rules n)
 
 -- the name, where the expression is one
 abbrev pub name_of : Expression → Option (List ℕ)

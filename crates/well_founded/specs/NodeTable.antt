@@ -1,5 +1,6 @@
 -- The nodes of the code, and the tables of them.
-use Rattle.std.specs.Prelude.{ℕ, suc, ◌+◌, List, [], ◌∷◌, unwrap_or}
+use Rattle.std.specs.Prelude.{ℕ, suc, ◌+◌, List, [], ◌∷◌, None, unwrap_or}
+use Rattle.spec_syntax.specs.declared.expr.Card.{Card}
 use Rattle.spec_syntax.specs.Expression as expr
 use Rattle.spec_syntax.specs.Expression.{Expression, nodes}
 use Rattle.spec_syntax.specs.Rules.{Rules, symbol, all_nodes}
@@ -10,7 +11,7 @@ use Rattle.well_founded.specs.declared.node.NodeKind.TheVariants as told
 use Rattle.well_founded.specs.Nodes.{places_from}
 use Rattle.well_founded.specs.NodeKinds.{container}
 
--- what a node of the code is, the nodes directly inside it, and the rule that it names, or 0
+-- what a node of the code is, the nodes directly inside it, the rule that it names, or 0, and its bound, or none
 abbrev pub node_kind : Node → NodeKind
 node_kind node.Epsilon = told.Epsilon
 node_kind node.Atom = told.Atom
@@ -28,6 +29,10 @@ node_children a = []
 abbrev pub node_rule : Node → ℕ
 node_rule (node.Rule sym) = sym
 node_rule a = 0
+
+abbrev pub node_card : Node → Card
+node_card (node.Many kind place card) = card
+node_card a = record { low = 0; high = None }
 
 -- the node of the code for the expression, which is node number n. A name without a rule has the number 0
 abbrev pub node_of : Rules → ℕ → Expression → Node

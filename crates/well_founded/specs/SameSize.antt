@@ -2,6 +2,7 @@
 use Rattle.std.specs.Prelude.{ℕ, suc, Bool, true, false, not, ◌&&◌, ◌||◌, nat_eq, List, [], ◌∷◌, map, Option, is_some}
 use Rattle.std.specs.Option.{option_map_or, option_and_then}
 use Rattle.std.specs.List.{list_all}
+use Rattle.spec_syntax.specs.Card.{admits}
 use Rattle.spec_syntax.specs.Expression as expr
 use Rattle.spec_syntax.specs.Expression.{Expression, Expressions, no_expressions, more_expressions, expression_list}
 use Rattle.spec_syntax.specs.Rules.{Rules, symbol, right_side, all_nodes}
@@ -23,11 +24,13 @@ alone_from sizes before (more_expressions e es) =
 abbrev pub is_told_inside : Expression → Bool
 is_told_inside right = not (is_epsilon right || is_atom right)
 
--- for each node below the expression: can a structure of it stand inside one of the expression's of the same size
+-- for each node below the expression: can a structure of it stand inside one of the expression's of the same size. In a
+-- container it can where it is the only component, since each one has an atom
 abbrev pub fillable : Rules → (Expression → Option ℕ) → Expression → List Bool
 fillable rules sizes (expr.Name name) = option_map_or (λ right. is_told_inside right ∷ []) (option_and_then (right_side rules) (symbol rules name)) []
 fillable rules sizes (expr.Union es) = map (λ e. is_some (sizes e)) (expression_list es)
 fillable rules sizes (expr.Prod es) = alone_from sizes true es
+fillable rules sizes (expr.Many kind element card) = (admits card 1 && is_some (sizes element)) ∷ []
 fillable rules sizes e = []
 
 abbrev pub picked : List Bool → List ℕ → List ℕ

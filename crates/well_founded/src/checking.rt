@@ -2,14 +2,15 @@
 ghost use Rattle.std.specs.Prelude.{◌≡◌, ◌≢◌, ℕ, ◌≤◌, ◌<◌, Some, None, length, position, is_none, IfOk, IfErr, IfSome, All, IsTrue, Option, List};
 ghost use Rattle.std.specs.Option.{option_copied, option_and_then};
 ghost use Rattle.spec_syntax.specs.Rules.{symbol, is_spec, all_nodes, rule_name};
-ghost use Rattle.well_founded.specs.Names.{are_plain, undefined_name, name_without_rule};
+ghost use Rattle.well_founded.specs.Names.{undefined_name, name_without_rule};
 ghost use Rattle.well_founded.specs.Least.{AreSizes, IsSmall, least_with, size_of_name};
 ghost use Rattle.well_founded.specs.NodeTable.{right_nodes_from};
 ghost use Rattle.well_founded.specs.SameSize.{same_size_graph};
 ghost use Rattle.well_founded.specs.Graph.{IsGraph};
-ghost use Rattle.well_founded.specs.WellFounded.{IsWellFounded, IsCulprit, Checks};
+ghost use Rattle.well_founded.specs.WellFounded.{HoldsCycle, HoldsNull, OfNone, IsWellFounded, IsCulprit, Checks};
 ghost use Rattle.well_founded.specs.Search.{IsFirstRound, IsNoRound};
 
+use crate::containers::{first_over_null, first_with_cycle};
 use crate::grammar::checked;
 use crate::graph::{leads_to_itself, ranks};
 use crate::least::{NO_LEAST, least_sizes};
@@ -21,6 +22,15 @@ use crate::{Grammar, Refused};
 use seq::Seq;
 use spec_syntax::{Name, Spec, Universe};
 use std::alloc::{AllocError, Global};
+
+/// The name of rule number `sym`, counted from 1.
+fn name_of(alloc: Global, spec: &Spec, sym: u32) -> Result<Name, AllocError>
+    requires low { 1 ≤ sym }
+    requires high { sym ≤ length spec.now }
+    ensures { IfOk result (λ name. name ≡ rule_name spec.now sym) }
+{
+    Name::from_slice(alloc, spec.name(sym).as_slice())
+}
 
 /// The place, from 0, of the first rule without a structure.
 fn first_without(sizes: &[Option<u32>]) -> Option<usize>
@@ -60,7 +70,7 @@ fn number_of(spec: &Spec, start: Option<&Name>) -> Option<u32>
     }
 }
 
-/// The tables of a grammar whose rules have names and structures, or the refusal of an endless rule.
+/// The tables of a grammar that isn't refused for any other fault, or the refusal of an endless rule.
 fn check_sized(
     alloc: Global,
     spec: &Spec,
@@ -69,11 +79,12 @@ fn check_sized(
     start: Option<u32>,
 ) -> Result<Grammar, Refused>
     requires spec { IsTrue (is_spec spec.now) }
-    requires plain { IsTrue (are_plain spec.now) }
     requires named { name_without_rule spec.now ≡ None }
     requires sizes { AreSizes spec.now sizes.now }
     requires small { All IsSmall sizes.now }
+    requires no_cycles { OfNone (HoldsCycle (record { rules = spec.now; universe = universe })) spec.now }
     requires productive { position is_none sizes.now ≡ None }
+    requires no_nulls { OfNone (HoldsNull (record { rules = spec.now; universe = universe })) spec.now }
     requires start { IfSome start (λ sym. (1 ≤ sym) × (sym ≤ length spec.now)) }
     ensures rules { IfOk result (λ grammar. grammar.rules ≡ spec.now) }
     ensures universe { IfOk result (λ grammar. grammar.universe ≡ universe) }
@@ -85,7 +96,7 @@ fn check_sized(
     let graph = same_size_graph(alloc, spec, sizes)?;
     let roots = right_nodes(alloc, spec)?;
     if let Some(place) = first_round(alloc, &graph, &roots)? {
-        let name = Name::from_slice(alloc, spec.name(place as u32 + 1).as_slice())?;
+        let name = name_of(alloc, spec, place as u32 + 1)?;
         return Err(Refused::Endless(name, sizes[place].unwrap_or(NO_LEAST)));
     }
     let ranks = ranks(alloc, &graph)?;
@@ -101,15 +112,16 @@ fn check_sized(
 /// # Errors
 ///
 /// Otherwise the refusal that names the culprit, in this order over all rules: `Undefined` names the first name in written
-/// order without a rule, the start last; `Unproductive` the first rule without a structure; `Endless` the first rule that
-/// has a structure strictly inside which stands a structure of the same rule and size. Or memory is wanting.
+/// order without a rule, the start last; `CycleUnlabelled` the first rule that holds a Cycle, where the universe is
+/// unlabelled; `Unproductive` the first rule without a structure; `NullElement` the first rule with a container, of
+/// whatever bound, over a class that has a structure of size 0; `Endless` the first rule that has a structure strictly
+/// inside which stands a structure of the same rule and size. Or memory is wanting.
 pub fn check(
     alloc: Global,
     spec: &Spec,
     start: Option<&Name>,
     universe: Universe,
 ) -> Result<Grammar, Refused>
-    requires plain { IsTrue (are_plain spec.now) }
     ensures rules { IfOk result (λ grammar. grammar.rules ≡ spec.now) }
     ensures universe { IfOk result (λ grammar. grammar.universe ≡ universe) }
     ensures start { IfOk result (λ grammar. grammar.start ≡ option_and_then (symbol spec.now) (option_copied start.entry)) }
@@ -120,10 +132,15 @@ pub fn check(
         let name = Name::from_slice(alloc, name.as_slice())?;
         return Err(Refused::Undefined(name));
     }
+    if let Some(sym) = first_with_cycle(spec, universe) {
+        return Err(Refused::CycleUnlabelled(name_of(alloc, spec, sym)?));
+    }
     let sizes = least_sizes(alloc, spec)?;
     if let Some(place) = first_without(&sizes) {
-        let name = Name::from_slice(alloc, spec.name(place as u32 + 1).as_slice())?;
-        return Err(Refused::Unproductive(name));
+        return Err(Refused::Unproductive(name_of(alloc, spec, place as u32 + 1)?));
+    }
+    if let Some(sym) = first_over_null(spec, &sizes) {
+        return Err(Refused::NullElement(name_of(alloc, spec, sym)?));
     }
     check_sized(alloc, spec, &sizes, universe, number_of(spec, start))
 }

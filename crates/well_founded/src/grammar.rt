@@ -1,18 +1,18 @@
 //! Checked grammars.
-ghost use Rattle.std.specs.Prelude.{◌≡◌, ℕ, ◌-◌, ◌≤◌, ◌<◌, Some, IfSome, length, slice_get, option_map, option_and_then};
+ghost use Rattle.std.specs.Prelude.{◌≡◌, ℕ, true, ◌-◌, ◌≤◌, ◌<◌, Some, IfSome, length, slice_get, option_map, option_and_then};
 ghost use Rattle.spec_syntax.specs.Expression.{Expression};
 ghost use Rattle.spec_syntax.specs.Rules.{symbol, right_side, all_nodes};
 ghost use Rattle.well_founded.specs.declared.node.NodeKind.TheVariants.{Rule};
 ghost use Rattle.well_founded.specs.Sizes.{IsLeast};
 ghost use Rattle.well_founded.specs.Nodes.{node_at, right_node};
-ghost use Rattle.well_founded.specs.NodeKinds.{kind_of, name_at, children_at, arguments_at};
+ghost use Rattle.well_founded.specs.NodeKinds.{kind_of, is_container, card_at, name_at, children_at, arguments_at};
 ghost use Rattle.well_founded.specs.NodeTable.{nodes_of, right_nodes_from};
 ghost use Rattle.well_founded.specs.Rank.{IsRank};
 ghost use Rattle.well_founded.specs.Checked.{IsChecked, grammar};
 
 use crate::NodeKind;
 use crate::node::Node;
-use spec_syntax::{Spec, Universe};
+use spec_syntax::{Card, Spec, Universe};
 use std::marker::Model;
 
 /// A grammar that passed the check, with its expressions as nodes, numbered from 0 in preorder, rule by rule.
@@ -113,6 +113,15 @@ impl Grammar {
         ensures within { result < length (all_nodes self.now.rules) }
     {
         self.nodes[node as usize].child(i - 1)
+    }
+
+    /// The bound on the number of components of the container that the node is.
+    pub fn card(&self, node: u32) -> Card
+        requires within { node < length (all_nodes self.now.rules) }
+        requires container { option_map is_container (option_map kind_of (node_at self.now.rules node)) ≡ Some true }
+        ensures { card_at self.now.rules node ≡ Some result }
+    {
+        self.nodes[node as usize].card()
     }
 
     /// The number of the rule that the node names.

@@ -6,10 +6,9 @@
 ghost use Rattle.std.specs.Prelude.{◌≡◌, length, replicate, All, IfOk, IsTrue, Option, Some, None};
 ghost use Rattle.spec_syntax.specs.Expression.{expressions_of, Atom as AtomOf, Name as NameOf, Prod as ProdOf, more_expressions, no_expressions};
 ghost use Rattle.spec_syntax.specs.Rules.{is_spec};
-ghost use Rattle.well_founded.specs.Names.{are_plain};
-ghost use Rattle.well_founded.specs.Least.{IsSmall, AreSizes, lesser, together, least_with, least_of_some, least_of_all, size_of_name, next_sizes};
+ghost use Rattle.well_founded.specs.Least.{IsSmall, AreSizes, lesser, together, fewest, copies, least_of_many, least_with, least_of_some, least_of_all, size_of_name, next_sizes};
 
-use spec_syntax::{Expr, ExprShape, Spec};
+use spec_syntax::{Card, Expr, ExprShape, Kind, Spec};
 use std::alloc::{AllocError, Global};
 
 /// The number that stands for a least size above 1000.
@@ -38,6 +37,35 @@ fn together(one: Option<u32>, other: Option<u32>) -> Option<u32>
     }
 }
 
+/// The least number of components of a container, where any number is admitted.
+fn fewest(kind: Kind, card: Card) -> Option<u32>
+    ensures { result ≡ fewest kind card }
+{
+    let count = match kind {
+        Kind::Cycle => card.low.max(1),
+        Kind::Sequence | Kind::Set | Kind::PowerSet => card.low,
+    };
+    card.admits(count).then_some(count)
+}
+
+/// The least size of so many structures together, by that of one.
+fn copies(count: u32, size: Option<u32>) -> Option<u32>
+    ensures { result ≡ copies count size }
+{
+    if count == 0 {
+        return Some(0);
+    }
+    Some(count.saturating_mul(size?).min(NO_LEAST))
+}
+
+/// The least size of a container, by that of its element.
+fn least_of_many(kind: Kind, card: Card, size: Option<u32>) -> Option<u32>
+    ensures { result ≡ least_of_many kind card size }
+{
+    let count = fewest(kind, card)?;
+    copies(count, size)
+}
+
 /// The least size of a structure of the rule with this name.
 fn least_of_name(spec: &Spec, sizes: &[Option<u32>], name: &[u8]) -> Option<u32>
     requires { length sizes.now ≡ length spec.now }
@@ -60,8 +88,9 @@ pub(crate) fn least_in(spec: &Spec, sizes: &[Option<u32>], expr: &Expr) -> Optio
         ExprShape::Name(name) => least_of_name(spec, sizes, name.as_slice()),
         ExprShape::Union(arguments) => least_of_some(spec, sizes, arguments.as_slice()),
         ExprShape::Prod(arguments) => least_of_all(spec, sizes, arguments.as_slice()),
-        // No statement has a container yet.
-        ExprShape::Many(_, _, _) => None,
+        ExprShape::Many(kind, element, card) => {
+            least_of_many(*kind, *card, least_in(spec, sizes, element))
+        }
     }
 }
 
@@ -129,7 +158,6 @@ fn next_sizes(
 ///
 /// Memory may be wanting.
 pub(crate) fn least_sizes(alloc: Global, spec: &Spec) -> Result<Vec<Option<u32>>, AllocError>
-    requires { IsTrue (are_plain spec.now) }
     ensures sizes { IfOk result (λ sizes. AreSizes spec.now sizes.items) }
     ensures small { IfOk result (λ sizes. All IsSmall sizes.items) }
     ensures kept { IsTrue (is_spec spec.now) }

@@ -4,6 +4,7 @@
 ghost use Rattle.std.specs.Prelude.{◌≡◌};
 
 mod checking;
+mod containers;
 mod grammar;
 mod graph;
 mod laws;

@@ -2,7 +2,7 @@
 ghost use Rattle.std.specs.Prelude.{◌≡◌, [], ◌∷◌, ◌+◌, ◌++◌, ◌≤◌, ◌<◌, Some, length, slice_get, IfOk, OnOk};
 ghost use Rattle.spec_syntax.specs.Expression.{nodes, nodes_of_all, preorder, preorder_of_all, expressions_of};
 ghost use Rattle.well_founded.specs.Nodes.{places_from};
-ghost use Rattle.well_founded.specs.NodeTable.{node_kind, node_children, node_rule, nodes_from, nodes_of, right_nodes_from};
+ghost use Rattle.well_founded.specs.NodeTable.{node_kind, node_children, node_rule, node_card, nodes_from, nodes_of, right_nodes_from};
 
 use seq::Seq;
 use spec_syntax::{Card, Expr, ExprShape, Kind, Spec};
@@ -86,6 +86,16 @@ impl Node {
         match self {
             Node::Rule(sym) => *sym,
             _ => 0,
+        }
+    }
+
+    /// The bound on the number of its components, where it is a container.
+    pub(crate) fn card(&self) -> Card
+        ensures { result ≡ node_card self.now }
+    {
+        match self {
+            Node::Many(_, _, card) => *card,
+            _ => Card { low: 0, high: None },
         }
     }
 }

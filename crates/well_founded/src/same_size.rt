@@ -1,8 +1,7 @@
 //! Which nodes' structures can stand directly inside a node's of the same size, as told by least sizes.
-ghost use Rattle.std.specs.Prelude.{◌≡◌, ◌&&◌, ◌+◌, ◌++◌, ◌≤◌, length, map, is_some, true, All, IfOk, OnOk, IsTrue};
+ghost use Rattle.std.specs.Prelude.{◌≡◌, ◌&&◌, [], ◌∷◌, ◌+◌, ◌++◌, ◌≤◌, length, map, is_some, true, All, IfOk, OnOk, IsTrue};
 ghost use Rattle.std.specs.List.{list_all};
 ghost use Rattle.spec_syntax.specs.Expression.{Name as NameOf, is_well_formed, nodes, nodes_of_all, preorder, preorder_of_all, expressions_of};
-ghost use Rattle.well_founded.specs.Names.{is_plain};
 ghost use Rattle.well_founded.specs.Least.{IsSmall, least_with, size_of_name};
 ghost use Rattle.well_founded.specs.NodeTable.{right_nodes_from};
 ghost use Rattle.well_founded.specs.SameSize.{is_null, alone_from, is_told_inside, picked, followers, followers_from, same_size_graph};
@@ -10,7 +9,7 @@ ghost use Rattle.well_founded.specs.SameSize.{is_null, alone_from, is_told_insid
 use crate::least::least_in;
 use crate::node::{places, right_nodes};
 use seq::Seq;
-use spec_syntax::{Expr, ExprShape, Name, Spec};
+use spec_syntax::{Card, Expr, ExprShape, Name, Spec};
 use std::alloc::{AllocError, Global};
 
 /// Those of the nodes that have a flag.
@@ -125,6 +124,17 @@ fn prod_flags(
     Ok(flags)
 }
 
+/// The element of a container, where a structure of it can be the only component.
+fn element_followers(alloc: Global, flag: bool, element: u32) -> Result<Seq<u32>, AllocError>
+    ensures { IfOk result (λ row. row ≡ picked (flag ∷ []) (element ∷ [])) }
+{
+    let mut row = Seq::new(alloc);
+    if flag {
+        row.push(element)?;
+    }
+    Ok(row)
+}
+
 /// The nodes whose structures can stand directly inside those of the expression, which is node number `number`, of the
 /// same size.
 #[tactic(auto, using(crate::proofs::SameSizeCode::list_of))]
@@ -155,8 +165,10 @@ fn followers(
             let inside = places(alloc, number + 1, arguments.as_slice())?;
             picked(alloc, &flags, inside.as_slice())
         }
-        // No statement has a container yet.
-        ExprShape::Many(_, _, _) => Ok(Seq::new(alloc)),
+        ExprShape::Many(_, element, card) => {
+            let flag = card.admits(1) && least_in(spec, sizes, element).is_some();
+            element_followers(alloc, flag, number + 1)
+        }
     }
 }
 
@@ -261,7 +273,7 @@ mod tests {
 
     /// Nothing, or a structure of `B` and one of `A`.
     fn nothing_or_more(alloc: Global) -> Result<Expr, AllocError>
-        ensures { IfOk result (λ expr. IsTrue (is_plain expr) × IsTrue (is_well_formed expr) × (nodes expr ≡ 5)) }
+        ensures { IfOk result (λ expr. IsTrue (is_well_formed expr) × (nodes expr ≡ 5)) }
     {
         let mut components = Exprs::new(alloc);
         components.push(named(alloc, b"B")?)?;

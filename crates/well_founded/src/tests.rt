@@ -1,11 +1,11 @@
 //! Tests of the check on small grammars.
-ghost use Rattle.std.specs.Prelude.{◌≡◌, ◌<◌, length, IfOk, IsTrue};
-ghost use Rattle.spec_syntax.specs.Rules.{all_nodes};
-ghost use Rattle.well_founded.specs.Names.{are_plain};
-ghost use Rattle.spec_syntax.specs.Expression.{Epsilon as EpsilonOf, Atom as AtomOf, Name as NameOf, Union as UnionOf, Prod as ProdOf, more_expressions, no_expressions};
+ghost use Rattle.std.specs.Prelude.{◌≡◌, Some, None, [], ◌∷◌, ◌<◌, length, IfOk, IsTrue};
+ghost use Rattle.spec_syntax.specs.Rules.{is_spec, all_nodes};
+ghost use Rattle.spec_syntax.specs.Card.{is_writable};
+ghost use Rattle.spec_syntax.specs.Expression.{Epsilon as EpsilonOf, Atom as AtomOf, Name as NameOf, Union as UnionOf, Prod as ProdOf, Many as ManyOf, more_expressions, no_expressions};
 
 use crate::{Grammar, NodeKind, Refused, check, each_grammar_has_one_check};
-use spec_syntax::{Expr, ExprShape, Exprs, Name, Spec, Universe};
+use spec_syntax::{Card, Expr, ExprShape, Exprs, Kind, Name, Spec, Universe};
 use std::alloc::{AllocError, Global};
 use std::test::Fail;
 
@@ -60,6 +60,45 @@ fn prod_of(alloc: Global, one: Expr, other: Expr) -> Result<Expr, AllocError>
     })
 }
 
+/// A container of structures of the element, so many as the bound admits.
+fn many_of(alloc: Global, kind: Kind, element: Expr, card: Card) -> Result<Expr, AllocError>
+    ensures { IfOk result (λ expr. expr ≡ ManyOf kind element card) }
+{
+    Ok(Expr {
+        shape: ExprShape::Many(kind, Box::new(alloc, element)?, card),
+    })
+}
+
+/// The bound that admits any number.
+const ANY: Card = Card { low: 0, high: None };
+
+/// The bound that admits this number alone.
+const fn exactly(k: u32) -> Card
+    ensures { result ≡ record { low = k; high = Some k } }
+{
+    Card {
+        low: k,
+        high: Some(k),
+    }
+}
+
+/// The bound that admits each number from this one on.
+const fn at_least(k: u32) -> Card
+    ensures { result ≡ record { low = k; high = None } }
+{
+    Card { low: k, high: None }
+}
+
+/// The grammar of this rule alone.
+fn of_rule(alloc: Global, name: &[u8], right: Expr) -> Result<Spec, AllocError>
+    requires { IsTrue (is_spec ((name.now, right) ∷ [])) }
+    ensures { IfOk result (λ spec. spec ≡ (name.now, right) ∷ []) }
+{
+    let mut spec = Spec::new(alloc);
+    spec.add(Name::from_slice(alloc, name)?, right)?;
+    Ok(spec)
+}
+
 /// Whether the rule with this name is refused as endless, with this least size.
 fn is_endless(answer: Result<Grammar, Refused>, rule: &[u8], size: u32) -> bool {
     match answer {
@@ -84,10 +123,24 @@ fn is_undefined(answer: Result<Grammar, Refused>, used: &[u8]) -> bool {
     }
 }
 
+/// Whether the rule with this name is refused for a container over a class with a structure of size 0.
+fn is_over_null(answer: Result<Grammar, Refused>, rule: &[u8]) -> bool {
+    match answer {
+        Err(Refused::NullElement(name)) => name.as_slice() == rule,
+        _ => false,
+    }
+}
+
+/// Whether the rule with this name is refused for a Cycle in the unlabelled universe.
+fn is_cycle(answer: Result<Grammar, Refused>, rule: &[u8]) -> bool {
+    match answer {
+        Err(Refused::CycleUnlabelled(name)) => name.as_slice() == rule,
+        _ => false,
+    }
+}
+
 /// `T = Union(Z, T)`.
-fn union_over_itself(alloc: Global) -> Result<Spec, AllocError>
-    ensures { IfOk result (λ spec. IsTrue (are_plain spec)) }
-{
+fn union_over_itself(alloc: Global) -> Result<Spec, AllocError> {
     let mut spec = Spec::new(alloc);
     let right = union_of(alloc, atom(), named(alloc, b"T")?)?;
     spec.add(Name::from_slice(alloc, b"T")?, right)?;
@@ -95,9 +148,7 @@ fn union_over_itself(alloc: Global) -> Result<Spec, AllocError>
 }
 
 /// `T = Prod(Z, T)`.
-fn without_end(alloc: Global) -> Result<Spec, AllocError>
-    ensures { IfOk result (λ spec. IsTrue (are_plain spec)) }
-{
+fn without_end(alloc: Global) -> Result<Spec, AllocError> {
     let mut spec = Spec::new(alloc);
     let right = prod_of(alloc, atom(), named(alloc, b"T")?)?;
     spec.add(Name::from_slice(alloc, b"T")?, right)?;
@@ -105,9 +156,7 @@ fn without_end(alloc: Global) -> Result<Spec, AllocError>
 }
 
 /// `S = Prod(Z, A), A = Union(Z, A)`.
-fn later_at_fault(alloc: Global) -> Result<Spec, AllocError>
-    ensures { IfOk result (λ spec. IsTrue (are_plain spec)) }
-{
+fn later_at_fault(alloc: Global) -> Result<Spec, AllocError> {
     let mut spec = Spec::new(alloc);
     let first = prod_of(alloc, atom(), named(alloc, b"A")?)?;
     spec.add(Name::from_slice(alloc, b"S")?, first)?;
@@ -117,9 +166,7 @@ fn later_at_fault(alloc: Global) -> Result<Spec, AllocError>
 }
 
 /// `T = Union(Prod(Z, Z), Prod(E, T)), E = Epsilon`.
-fn beside_nothing(alloc: Global) -> Result<Spec, AllocError>
-    ensures { IfOk result (λ spec. IsTrue (are_plain spec)) }
-{
+fn beside_nothing(alloc: Global) -> Result<Spec, AllocError> {
     let mut spec = Spec::new(alloc);
     let two = prod_of(alloc, atom(), atom())?;
     let more = prod_of(alloc, named(alloc, b"E")?, named(alloc, b"T")?)?;
@@ -145,15 +192,114 @@ fn grammars_that_are_refused(rt: HostRuntime) -> Result<(), Fail> {
     Ok(())
 }
 
-/// `T = Union(Z, Prod(E, T))`, where `E` is an atom.
-fn words(alloc: Global) -> Result<Spec, AllocError>
-    ensures { IfOk result (λ spec. IsTrue (are_plain spec)) }
+/// `S = Sequence(Union(Z, Epsilon))`.
+fn words_of_maybe(alloc: Global) -> Result<Spec, AllocError> {
+    let maybe = union_of(alloc, atom(), empty())?;
+    of_rule(alloc, b"S", many_of(alloc, Kind::Sequence, maybe, ANY)?)
+}
+
+/// `S = Sequence(E, card = 0), E = Epsilon`.
+fn no_word_of_nothing(alloc: Global) -> Result<Spec, AllocError> {
+    let right = many_of(alloc, Kind::Sequence, named(alloc, b"E")?, exactly(0))?;
+    let mut spec = of_rule(alloc, b"S", right)?;
+    spec.add(Name::from_slice(alloc, b"E")?, empty())?;
+    Ok(spec)
+}
+
+/// `S = Sequence(Epsilon), T = Prod(Z, T)`.
+fn two_faults(alloc: Global) -> Result<Spec, AllocError> {
+    let right = many_of(alloc, Kind::Sequence, empty(), ANY)?;
+    let mut spec = of_rule(alloc, b"S", right)?;
+    let endless = prod_of(alloc, atom(), named(alloc, b"T")?)?;
+    spec.add(Name::from_slice(alloc, b"T")?, endless)?;
+    Ok(spec)
+}
+
+/// `T` with this container of structures of `T`.
+fn over_itself(alloc: Global, kind: Kind, card: Card) -> Result<Spec, AllocError>
+    requires { IsTrue (is_writable card) }
 {
+    of_rule(
+        alloc,
+        b"T",
+        many_of(alloc, kind, named(alloc, b"T")?, card)?,
+    )
+}
+
+/// `T = Union(Z, S)`, where `S` is this container of structures of `T`.
+fn or_over_itself(alloc: Global, kind: Kind, card: Card) -> Result<Spec, AllocError>
+    requires { IsTrue (is_writable card) }
+{
+    let over = many_of(alloc, kind, named(alloc, b"T")?, card)?;
+    of_rule(alloc, b"T", union_of(alloc, atom(), over)?)
+}
+
+/// `S = Cycle(Z)`, with this bound.
+fn rounds(alloc: Global, card: Card) -> Result<Spec, AllocError>
+    requires { IsTrue (is_writable card) }
+{
+    of_rule(alloc, b"S", many_of(alloc, Kind::Cycle, atom(), card)?)
+}
+
+#[test]
+fn containers_over_nothing(rt: HostRuntime) -> Result<(), Fail> {
+    let alloc = rt.alloc();
+    let universe = Universe::Unlabelled;
+    let spec = words_of_maybe(alloc)?;
+    assert!(rt; is_over_null(check(alloc, &spec, None, universe), b"S"));
+    let spec = no_word_of_nothing(alloc)?;
+    assert!(rt; is_over_null(check(alloc, &spec, None, universe), b"S"));
+    let spec = over_itself(alloc, Kind::Sequence, ANY)?;
+    assert!(rt; is_over_null(check(alloc, &spec, None, universe), b"T"));
+    let spec = two_faults(alloc)?;
+    assert!(rt; is_unproductive(check(alloc, &spec, None, universe), b"T"));
+    Ok(())
+}
+
+#[test]
+fn containers_over_themselves(rt: HostRuntime) -> Result<(), Fail> {
+    let alloc = rt.alloc();
+    let universe = Universe::Unlabelled;
+    let spec = over_itself(alloc, Kind::Sequence, at_least(1))?;
+    assert!(rt; is_unproductive(check(alloc, &spec, None, universe), b"T"));
+    let spec = over_itself(alloc, Kind::Set, exactly(1))?;
+    assert!(rt; is_unproductive(check(alloc, &spec, None, universe), b"T"));
+    let spec = or_over_itself(alloc, Kind::Sequence, exactly(1))?;
+    assert!(rt; is_endless(check(alloc, &spec, None, universe), b"T", 1));
+    let spec = or_over_itself(alloc, Kind::Sequence, at_least(2))?;
+    assert!(rt; check(alloc, &spec, None, universe).is_ok());
+    Ok(())
+}
+
+#[test]
+fn cycles(rt: HostRuntime) -> Result<(), Fail> {
+    let alloc = rt.alloc();
+    let spec = rounds(alloc, ANY)?;
+    assert!(rt; is_cycle(check(alloc, &spec, None, Universe::Unlabelled), b"S"));
+    assert!(rt; check(alloc, &spec, None, Universe::Labelled).is_ok());
+    let spec = rounds(alloc, exactly(0))?;
+    assert!(rt; is_unproductive(check(alloc, &spec, None, Universe::Labelled), b"S"));
+    Ok(())
+}
+
+/// `T = Union(Z, Prod(E, T))`, where `E` is an atom.
+fn words(alloc: Global) -> Result<Spec, AllocError> {
     let mut spec = Spec::new(alloc);
     let more = prod_of(alloc, named(alloc, b"E")?, named(alloc, b"T")?)?;
     let right = union_of(alloc, atom(), more)?;
     spec.add(Name::from_slice(alloc, b"T")?, right)?;
     spec.add(Name::from_slice(alloc, b"E")?, atom())?;
+    Ok(spec)
+}
+
+/// `T = Prod(Z, Sequence(T)), S = Union(Cycle(T), Set(T, card = 3))`.
+fn trees(alloc: Global) -> Result<Spec, AllocError> {
+    let branches = many_of(alloc, Kind::Sequence, named(alloc, b"T")?, ANY)?;
+    let mut spec = of_rule(alloc, b"T", prod_of(alloc, atom(), branches)?)?;
+    let round = many_of(alloc, Kind::Cycle, named(alloc, b"T")?, ANY)?;
+    let three = many_of(alloc, Kind::Set, named(alloc, b"T")?, exactly(3))?;
+    let right = union_of(alloc, round, three)?;
+    spec.add(Name::from_slice(alloc, b"S")?, right)?;
     Ok(spec)
 }
 
@@ -227,6 +373,55 @@ fn a_grammar_that_passes(rt: HostRuntime) -> Result<(), Fail> {
     assert!(rt; kinds(alloc, &grammar)?.as_slice() == expected.as_slice());
     assert!(rt; insides(alloc, &grammar)?.as_slice() == [1, 2, 3, 4, 2, 1].as_slice());
     let expected = [(1, 2), (1, 0), (2, 0), (1, 0), (1, 3), (1, 0)];
+    assert!(rt; measures(alloc, &grammar)?.as_slice() == expected.as_slice());
+    Ok(())
+}
+
+/// The bounds of the containers.
+fn cards(alloc: Global, grammar: &Grammar) -> Result<Vec<Card>, AllocError> {
+    let mut cards = Vec::new(alloc);
+    for node in 0..grammar.nodes() {
+        match grammar.kind(node) {
+            NodeKind::Sequence | NodeKind::Set | NodeKind::PowerSet | NodeKind::Cycle => {
+                cards.push(grammar.card(node))?
+            }
+            _ => {}
+        }
+    }
+    Ok(cards)
+}
+
+#[test]
+fn a_grammar_of_containers_that_passes(rt: HostRuntime) -> Result<(), Fail> {
+    let alloc = rt.alloc();
+    let Ok(grammar) = check(alloc, &trees(alloc)?, None, Universe::Labelled) else {
+        panic!(rt; "it is refused");
+    };
+    let expected = [
+        NodeKind::Prod,
+        NodeKind::Atom,
+        NodeKind::Sequence,
+        NodeKind::Rule,
+        NodeKind::Union,
+        NodeKind::Cycle,
+        NodeKind::Rule,
+        NodeKind::Set,
+        NodeKind::Rule,
+    ];
+    assert!(rt; kinds(alloc, &grammar)?.as_slice() == expected.as_slice());
+    assert!(rt; insides(alloc, &grammar)?.as_slice() == [1, 2, 3, 1, 5, 7, 6, 1, 8, 1].as_slice());
+    assert!(rt; cards(alloc, &grammar)?.as_slice() == [ANY, ANY, exactly(3)].as_slice());
+    let expected = [
+        (1, 1),
+        (1, 0),
+        (0, 3),
+        (1, 2),
+        (1, 5),
+        (1, 3),
+        (1, 2),
+        (3, 0),
+        (1, 2),
+    ];
     assert!(rt; measures(alloc, &grammar)?.as_slice() == expected.as_slice());
     Ok(())
 }

@@ -13,7 +13,7 @@ returns-then-eq-clause-sizes c =
     let next_is : c.in_ok-next.next.items ≡ next_sizes rules c.loop-sizes.sizes.items = c.in_ok-next.ensures ∙ ap (next_sizes rules) c.deref.ensures.value in
     let stays : next_sizes rules c.loop-sizes.sizes.items ≡ c.loop-sizes.sizes.items =
     sym next_is ∙ same_tables c.in_ok-next.next.items c.loop-sizes.sizes.items (sym c.if-eq.ensures) in
-    are_sizes rules c.requires c.loop-sizes.sizes.items c.loop-sizes.invariant stays
+    are_sizes rules c.loop-sizes.sizes.items c.loop-sizes.invariant stays
 
 pub loop-sizes-smaller : goal.loop-sizes-smaller
 loop-sizes-smaller c =

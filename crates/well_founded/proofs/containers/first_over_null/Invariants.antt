@@ -1,0 +1,10 @@
+use Rattle.std.proofs.Common.{◌≡◌, ◌+◌, not, drop}
+use Rattle.std.specs.List.{position_from}
+use Rattle.well_founded.specs.Least.{least_with, size_of_name}
+use Rattle.well_founded.specs.Containers.{is_without_null}
+use Rattle.well_founded.proofs.containers.first_over_null.Given as goal
+
+abbrev pub invariant-loop-place : goal.invariant-loop-place
+invariant-loop-place l =
+    position_from (λ rule. not (is_without_null (least_with (size_of_name l.spec l.sizes)) rule.1)) 1 l.spec
+    ≡ position_from (λ rule. not (is_without_null (least_with (size_of_name l.spec l.sizes)) rule.1)) (l.place + 1) (drop l.place l.spec)
