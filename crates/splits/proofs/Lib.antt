@@ -1,0 +1,10 @@
+pub mod PartOrder
+pub mod SplitLaws
+pub mod SplitSupplies
+pub mod Selections
+pub mod SplitsListed
+pub mod NextPart
+pub mod PartLemmas
+pub mod ZeroParts
+pub mod ChangeLemmas
+pub mod WalkLemmas

@@ -1,0 +1,5 @@
+pub mod Splits
+pub mod Parts
+pub mod Laws
+pub mod Changes
+pub mod WalkView

@@ -1,0 +1,32 @@
+-- The parts of a supply whose length lies within bounds.
+use Rattle.std.specs.Prelude.{ℕ, Bool, not, ◌&&◌, nat_le, List, [], length, map, Option, Some, None}
+use Rattle.std.specs.List.{filter}
+use Rattle.std.specs.Ordering.{nat_cmp, is_lt}
+use Rattle.std.specs.Cmp.Lexicographic.{slice_cmp}
+use Rattle.struct_model.specs.Listing.{IsIn}
+use Rattle.splits.specs.Splits.{Split, splits}
+
+-- has the part from low to high labels
+abbrev pub has_length : ℕ → ℕ → Split → Bool
+has_length low high split = nat_le low (length split.part) && nat_le (length split.part) high
+
+-- the splits of a supply whose part has from low to high labels, in the order of the parts
+abbrev pub parts : ℕ → ℕ → List ℕ → List Split
+parts low high u = filter (has_length low high) (splits u)
+
+-- do the first labels come before the second ones, label by label, a prefix first
+abbrev pub comes_before : List ℕ → List ℕ → Bool
+comes_before first second = is_lt (slice_cmp nat_cmp first second)
+
+-- those of the splits whose part comes after this one
+abbrev pub after : List ℕ → List Split → List Split
+after part ss = filter (λ split. comes_before part split.part) ss
+
+-- those of the splits from this part on, or none where there is no part
+abbrev pub from_part : Option (List ℕ) → List Split → List Split
+from_part None ss = []
+from_part (Some part) ss = filter (λ split. not (comes_before split.part part)) ss
+
+-- is it the part of one of the splits
+abbrev pub IsPart : List ℕ → List Split → Type 0
+IsPart part ss = IsIn part (map (λ split. split.part) ss)

@@ -1,0 +1,27 @@
+-- What contracts see of a walk over parts.
+use Rattle.std.specs.Prelude.{◌≡◌, ℕ, List, [], Option, Some, None, IsTrue}
+use Rattle.std.specs.Option.{option_map}
+use Rattle.struct_model.specs.declared.supplies.Supply.{Supply}
+use Rattle.struct_model.specs.declared.supplies.Supply.TheVariants.{Zeros, Labels}
+use Rattle.struct_model.specs.SupplyView.{supply_labels, supply_universe, is_in_order}
+use Rattle.splits.specs.Splits.{Split}
+use Rattle.splits.specs.Parts.{parts, from_part, IsPart}
+
+-- the labels of a supply of labels, and none of zeros
+abbrev pub given_labels : Supply → List ℕ
+given_labels (Zeros n) = []
+given_labels (Labels labels) = labels
+
+-- the split of a supply in these two
+abbrev pub split_into : Supply → Supply → Split
+split_into part rest = record { part = supply_labels part; rest = supply_labels rest }
+
+-- the splits of the supply from the coming part on
+abbrev pub to_come : Supply → ℕ → ℕ → Option Supply → List Split
+to_come supply low high coming = from_part (option_map supply_labels coming) (parts low high (supply_labels supply))
+
+-- the coming part, if there is one, is a part of the supply whose length lies within the bounds, and of its universe
+abbrev pub IsToCome : Supply → ℕ → ℕ → Option Supply → Type 0
+IsToCome supply low high None = Unit {0}
+IsToCome supply low high (Some part) =
+    IsTrue (is_in_order part) × (supply_universe part ≡ supply_universe supply) × IsPart (supply_labels part) (parts low high (supply_labels supply))
