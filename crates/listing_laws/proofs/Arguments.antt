@@ -5,7 +5,7 @@ use Rattle.std.specs.Ordering.{ordering_then}
 use Rattle.std.proofs.lemmas.Cmp.{nat_cmp_total, tied_itself}
 use Rattle.std.proofs.lemmas.Bool.Decides.{nat_tests}
 use Rattle.spec_syntax.specs.Expression as expr
-use Rattle.spec_syntax.specs.Expression.{Expression, Expressions, no_expressions, more_expressions}
+use Rattle.spec_syntax.specs.Expression.{Expressions, no_expressions, more_expressions}
 use Rattle.spec_syntax.specs.Grammar.{Grammar}
 use Rattle.struct_model.specs.Structure.{Structure, Alt, key}
 use Rattle.struct_model.specs.Order.{key_order, order_within}
@@ -13,7 +13,7 @@ use Rattle.struct_model.specs.Membership.{is_of, argument}
 use Rattle.struct_model.specs.Listing.{Enumerated, Before, IsOne, Lists}
 use Rattle.listing_laws.specs.Lister.{alternatives}
 use Rattle.listing_laws.specs.Laws.{ListsEach}
-use Rattle.listing_laws.proofs.Enumerated as enumerated
+use Rattle.struct_model.proofs.Enumerated as enumerated
 use Rattle.listing_laws.proofs.OrderFacts.{same_key, before_within}
 
 module _ (g : Grammar) (u : List ℕ) where

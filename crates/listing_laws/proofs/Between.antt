@@ -1,79 +1,43 @@
--- Below the least sizes nothing is listed, so few sizes of a first component are enough.
-use Rattle.std.proofs.Common.{◌≡◌, ◌⊎◌, ℕ, zero, suc, ◌+◌, ◌-◌, ◌<◌, ◌≤◌, true, List, [], ◌∷◌, ◌++◌, map, flat_map, replicate, length, refl, sym, ap, ◌∙◌, inl, inr, arith}
-use Rattle.std.specs.List.{range_with_len, sum, sum_by}
+-- Below the least sizes nothing is listed, so few parts of the supply are enough for a first component.
+use Rattle.std.proofs.Common.{◌≡◌, ◌⊎◌, ℕ, ◌+◌, ◌-◌, ◌<◌, ◌≤◌, Bool, true, false, ◌&&◌, nat_le, cond, List, [], ◌∷◌, ◌++◌, map, filter, flat_map, length, refl, sym, ap, ◌∙◌, inl, inr, arith, true≢false}
+use Rattle.std.specs.List.{sum, sum_by}
 use Rattle.std.proofs.lemmas.List.Sums.{sum_by_from}
 use Rattle.std.proofs.lemmas.Bool.{cases_lt}
-use Rattle.std.proofs.lemmas.List.{length-replicate, append-nil}
-use Rattle.std.proofs.lemmas.Grind.{flat_map-append}
+use Rattle.std.proofs.lemmas.Bool.Decides.{nat_tests}
 use Rattle.spec_syntax.specs.Expression.{Expression, expressions_of}
 use Rattle.spec_syntax.specs.Grammar.{Grammar}
 use Rattle.struct_model.specs.Structure.{Structure, size}
 use Rattle.struct_model.specs.Listing.{IsIn, IsOne}
+use Rattle.struct_model.specs.Membership.{is_of}
 use Rattle.struct_model.specs.Bounded.{bounds, listing}
-use Rattle.well_founded.specs.Names.{is_plain, are_plain}
 use Rattle.well_founded.specs.Sizes.{IsOf, IsLeast}
-use Rattle.well_founded.proofs.SetsLaws.{is_plain_of}
-use Rattle.listing_laws.specs.Lister.{each_before}
-use Rattle.listing_laws.specs.Recursion.{listing_of_size, components_of, by_sizes_from, AreLeast}
+use Rattle.splits.specs.Splits.{Split, splits}
+use Rattle.splits.specs.Parts.{has_length}
+use Rattle.listing_laws.specs.Lister.{each_before, by_parts}
+use Rattle.listing_laws.specs.Recursion.{components_on, AreLeast}
 use Rattle.listing_laws.proofs.FilterLaws.{listing_within_sound}
-use Rattle.listing_laws.proofs.WellFoundedListed.{size_is}
+use Rattle.listing_laws.proofs.SetsRead.{in_sets, size-in_sets, read_of}
+use Rattle.listing_laws.proofs.Sizes.{size_is}
+use Rattle.splits.proofs.SplitSupplies.{split_length}
 
--- ---- ranges
+-- ---- what gives nothing
 
-pub range-append : (start a b : ℕ) → range_with_len start (a + b) ≡ range_with_len start a ++ range_with_len (start + a) b
-range-append start zero b = λ i. range_with_len (from start i) (none b i)
-  where
-    none : (b : ℕ) → zero + b ≡ b
-    none b = omega arith
+module _ {X A : Type 0} (f : X → List A) where
+  -- where each element gives nothing, all of them do
+  pub nothing_of : (xs : List X) → ((x : X) → IsIn x xs → f x ≡ []) → flat_map f xs ≡ []
+  nothing_of [] none = refl
+  nothing_of (x ∷ xs) none = ap (λ (first : List A). first ++ flat_map f xs) (none x (inl refl)) ∙ nothing_of xs (λ y there. none y (inr there))
 
-    from : (start : ℕ) → start ≡ start + 0
-    from start = omega arith
-range-append start (suc a) b =
-    ap (range_with_len start) (more a b) ∙ ap (λ rest. start ∷ rest) (range-append (start + 1) a b)
-    ∙ ap (λ (k : ℕ). start ∷ range_with_len (start + 1) a ++ range_with_len k b) (further start a)
-  where
-    more : (a b : ℕ) → suc a + b ≡ suc (a + b)
-    more a b = omega arith
-
-    further : (start a : ℕ) → start + 1 + a ≡ start + suc a
-    further start a = omega arith
-
-module _ {A : Type 0} (f : ℕ → List A) where
-  -- where each number of a range gives nothing, all of them do
-  nothing_from : (start count : ℕ) → ((k : ℕ) → start ≤ k → k < start + count → f k ≡ []) → flat_map f (range_with_len start count) ≡ []
-  nothing_from start zero none = refl
-  nothing_from start (suc count) none =
-      ap (λ (first : List A). first ++ flat_map f (range_with_len (start + 1) count)) (none start (omega arith) (omega arith))
-      ∙ nothing_from (start + 1) count (λ k low high. none k (omega arith) (omega arith))
-
-  middle : (low count above : ℕ) → ((k : ℕ) → k < low → f k ≡ []) → ((k : ℕ) → low + count ≤ k → k < low + count + above → f k ≡ [])
-      → flat_map f (range_with_len 0 (low + count + above)) ≡ flat_map f (range_with_len low count)
-  middle low count above below beyond =
-      ap (flat_map f) (range-append 0 (low + count) above ∙ ap (λ rest. rest ++ range_with_len (0 + (low + count)) above) (range-append 0 low count))
-      ∙ flat_map-append f (range_with_len 0 low ++ range_with_len (0 + low) count) (range_with_len (0 + (low + count)) above)
-      ∙ ap (λ (rest : List A). flat_map f (range_with_len 0 low ++ range_with_len (0 + low) count) ++ rest)
-      (nothing_from (0 + (low + count)) above (λ k start end. beyond k (omega arith) (omega arith)))
-      ∙ append-nil (flat_map f (range_with_len 0 low ++ range_with_len (0 + low) count))
-      ∙ flat_map-append f (range_with_len 0 low) (range_with_len (0 + low) count)
-      ∙ ap (λ (first : List A). first ++ flat_map f (range_with_len (0 + low) count)) (nothing_from 0 low (λ k start end. below k (omega arith)))
-      ∙ ap (λ (k : ℕ). flat_map f (range_with_len k count)) (none low)
+  -- elements that give nothing may be left out
+  pub left_out : (keep : X → Bool) (xs : List X) → ((x : X) → IsIn x xs → keep x ≡ false → f x ≡ []) → flat_map f xs ≡ flat_map f (filter keep xs)
+  left_out keep [] none = refl
+  left_out keep (x ∷ xs) none = by (keep x) refl (left_out keep xs (λ y there. none y (inr there)))
     where
-      none : (k : ℕ) → 0 + k ≡ k
-      none k = omega arith
+      by : (b : Bool) → keep x ≡ b → flat_map f xs ≡ flat_map f (filter keep xs) → f x ++ flat_map f xs ≡ flat_map f (cond b (x ∷ filter keep xs) (filter keep xs))
+      by true kept others = ap (λ rest. f x ++ rest) others
+      by false left others = ap (λ first. first ++ flat_map f xs) (none x (inl refl) left) ∙ others
 
-  -- numbers of a range that give nothing may be left out below and above
-  pub restricted : (total low count : ℕ) → ((k : ℕ) → k < low → f k ≡ []) → ((k : ℕ) → low + count ≤ k → k < total → f k ≡ [])
-      → (low + count ≤ total) ⊎ (count ≡ 0) → flat_map f (range_with_len 0 total) ≡ flat_map f (range_with_len low count)
-  restricted total low count below beyond (inl within) =
-      let whole : total ≡ low + count + (total - (low + count)) = omega arith in
-      ap (λ (k : ℕ). flat_map f (range_with_len 0 k)) whole ∙ middle low count (total - (low + count)) below (λ k start end. beyond k start (omega arith))
-  restricted total low count below beyond (inr none) =
-      nothing_from 0 total (λ k start end. elim (cases_lt k low) [ inl less ↦ below k less | inr more ↦ beyond k (omega arith) (omega arith) ])
-      ∙ ap (λ (k : ℕ). flat_map f (range_with_len low k)) (sym none)
-
--- ---- below the least size
-
-is_empty : {A : Type 0} (xs : List A) → ((x : A) → IsIn x xs → ⊥) → xs ≡ []
+pub is_empty : {A : Type 0} (xs : List A) → ((x : A) → IsIn x xs → ⊥) → xs ≡ []
 is_empty [] none = refl
 is_empty (x ∷ xs) none = absurd (none x (inl refl))
 
@@ -81,9 +45,15 @@ nothing_before : (firsts : List Structure) → flat_map (λ (first : Structure).
 nothing_before [] = refl
 nothing_before (first ∷ firsts) = nothing_before firsts
 
+-- ---- below the least size
+
 pub at_least : (g : Grammar) (e : Expression) (n : ℕ) (s : Structure) → IsLeast g e n → IsOf g e s → n ≤ size s
 at_least g e n s (inl least) of = least.1.least s of
 at_least g e n s (inr none) of = omega (arith, none.0, none.1 s of)
+
+-- no structure of the expression is smaller than the least size
+pub not_smaller : (g : Grammar) (e : Expression) (n : ℕ) (s : Structure) → IsLeast g e n → is_of g e s ≡ true → n ≤ size s
+not_smaller g e n s least of = omega (arith, at_least g e n (in_sets s) least (read_of g s e of), size-in_sets s)
 
 pub listing_sound : (g : Grammar) (e : Expression) (u : List ℕ) (s : Structure) → IsIn s (listing g e u) → IsOne g e u s
 unfolding listing
@@ -93,50 +63,55 @@ listing_sound g e u s within = listing_within_sound (bounds g u) g e u s within
 pub listed_size : (g : Grammar) (e : Expression) (u : List ℕ) (s : Structure) → IsIn s (listing g e u) → size s ≡ length u
 listed_size g e u s within = size_is u s (listing_sound g e u s within).1
 
-module _ (g : Grammar) (plain : are_plain g.rules ≡ true) where
-  -- below the least size nothing is listed
-  pub none_below : (e : Expression) (least n : ℕ) → is_plain e ≡ true → IsLeast g e least → n < least → listing_of_size g e n ≡ []
-  none_below e least n e_plain is_least below = is_empty (listing_of_size g e n) (λ s within.
-      let one : IsOne g e (replicate n 0) s = listing_sound g e (replicate n 0) s within in
-      let low : least ≤ size s = at_least g e least s is_least (is_plain_of g e s plain e_plain one.0) in
-      omega (arith, below, low, listed_size g e (replicate n 0) s within, length-replicate {A = ℕ} n 0))
+-- below the least size nothing is listed
+pub none_below : (g : Grammar) (e : Expression) (least : ℕ) (u : List ℕ) → IsLeast g e least → length u < least → listing g e u ≡ []
+none_below g e least u is_least below = is_empty (listing g e u) (λ s within.
+    omega (arith, below, not_smaller g e least s is_least (listing_sound g e u s within).0, listed_size g e u s within))
 
-  abbrev pub All_plain : List Expression → Type 0
-  All_plain [] = Unit {0}
-  All_plain (e ∷ es) = (is_plain e ≡ true) × All_plain es
+pub sum_more : (m : ℕ) (ms : List ℕ) → sum (m ∷ ms) ≡ m + sum ms
+sum_more m ms =
+    let whole : sum (m ∷ ms) ≡ 0 + m + sum_by (λ (x : ℕ). x) ms = sum_by_from (λ (x : ℕ). x) (0 + m) ms in
+    let rest : sum ms ≡ 0 + sum_by (λ (x : ℕ). x) ms = sum_by_from (λ (x : ℕ). x) 0 ms in
+    omega (arith, whole, rest)
 
-  pair_nothing : (e : Expression) (es : List Expression) (least : ℕ) (n k : ℕ) → is_plain e ≡ true → IsLeast g e least
-      → (k < least) ⊎ (components_of g (expressions_of es) (n - k) ≡ []) → each_before (listing_of_size g e k) (components_of g (expressions_of es) (n - k)) ≡ []
-  pair_nothing e es least n k e_plain is_least (inl below) =
-      ap (λ firsts. each_before firsts (components_of g (expressions_of es) (n - k))) (none_below e least k e_plain is_least below)
-  pair_nothing e es least n k e_plain is_least (inr none) =
-      ap (each_before (listing_of_size g e k)) none ∙ nothing_before (listing_of_size g e k)
+module _ (g : Grammar) where
+  -- what is listed with the first component on the part
+  abbrev on_split : Expression → List Expression → Split → List (List Structure)
+  on_split e es split = each_before (listing g e split.part) (components_on g (expressions_of es) split.rest)
 
-  pub sum_more : (m : ℕ) (ms : List ℕ) → sum (m ∷ ms) ≡ m + sum ms
-  sum_more m ms =
-      let whole : sum (m ∷ ms) ≡ 0 + m + sum_by (λ (x : ℕ). x) ms = sum_by_from (λ (x : ℕ). x) (0 + m) ms in
-      let rest : sum ms ≡ 0 + sum_by (λ (x : ℕ). x) ms = sum_by_from (λ (x : ℕ). x) 0 ms in
-      omega (arith, whole, rest)
+  nothing_on : (e : Expression) (es : List Expression) (least : ℕ) (split : Split) → IsLeast g e least
+      → (length split.part < least) ⊎ (components_on g (expressions_of es) split.rest ≡ []) → on_split e es split ≡ []
+  nothing_on e es least split is_least (inl below) =
+      ap (λ firsts. each_before firsts (components_on g (expressions_of es) split.rest)) (none_below g e least split.part is_least below)
+  nothing_on e es least split is_least (inr none) = ap (each_before (listing g e split.part)) none ∙ nothing_before (listing g e split.part)
 
-  -- no components are smaller than their least sizes together
-  pub none_below_all : (es : List Expression) (least : List ℕ) (n : ℕ) → All_plain es → AreLeast g es least → n < sum least → components_of g (expressions_of es) n ≡ []
-  none_below_all [] [] n es_plain are_least below = absurd (omega arith)
-  none_below_all [] (m ∷ ms) n es_plain are_least below = absurd are_least
-  none_below_all (e ∷ es) [] n es_plain are_least below = absurd are_least
-  none_below_all (e ∷ es) (m ∷ ms) n es_plain are_least below =
-      nothing_from (λ size. each_before (listing_of_size g e size) (components_of g (expressions_of es) (n - size))) 0 (n + 1) (λ k start end.
-      pair_nothing e es m n k es_plain.0 are_least.0 (elim (cases_lt k m) [
+  -- no components are on fewer labels than their least sizes together
+  pub none_below_all : (es : List Expression) (least : List ℕ) (u : List ℕ) → AreLeast g es least → length u < sum least → components_on g (expressions_of es) u ≡ []
+  none_below_all [] [] u are_least below = absurd (omega arith)
+  none_below_all [] (m ∷ ms) u are_least below = absurd are_least
+  none_below_all (e ∷ es) [] u are_least below = absurd are_least
+  none_below_all (e ∷ es) (m ∷ ms) u are_least below =
+      nothing_of (on_split e es) (splits u) (λ split there.
+      nothing_on e es m split are_least.0 (elim (cases_lt (length split.part) m) [
         | inl less ↦ inl less
-        | inr more ↦ inr (none_below_all es ms (n - k) es_plain.1 are_least.1 (omega (arith, sum_more m ms)))
+        | inr more ↦ inr (none_below_all es ms split.rest are_least.1 (omega (arith, sum_more m ms, split_length u split there)))
       ]))
 
-  pub between : (e : Expression) (es : List Expression) (least : ℕ) (others : List ℕ) (n : ℕ) → All_plain (e ∷ es) → AreLeast g (e ∷ es) (least ∷ others)
-      → components_of g (expressions_of (e ∷ es)) n ≡ by_sizes_from least (n + 1 - (least + sum others)) (listing_of_size g e) (components_of g (expressions_of es)) n
-  between e es least others n es_plain are_least =
-      restricted (λ size. each_before (listing_of_size g e size) (components_of g (expressions_of es) (n - size))) (n + 1) least (n + 1 - (least + sum others))
-      (λ k below. pair_nothing e es least n k es_plain.0 are_least.0 (inl below))
-      (λ k beyond within. pair_nothing e es least n k es_plain.0 are_least.0 (inr (none_below_all es others (n - k) es_plain.1 are_least.1 (omega arith))))
-      (room n least (sum others))
+  outside : (low n high : ℕ) → (nat_le low n && nat_le n high) ≡ false → (n < low) ⊎ (high < n)
+  outside low n high h = elim (cases_lt n low) [
+    | inl below ↦ inl below
+    | inr above ↦ elim (cases_lt high n) [ inl over ↦ inr over | inr within ↦ absurd (inside above within) ]
+  ]
     where
-      room : (n least rest : ℕ) → (least + (n + 1 - (least + rest)) ≤ n + 1) ⊎ (n + 1 - (least + rest) ≡ 0)
-      room n least rest = elim (cases_lt (n + 1) (least + rest)) [ inl less ↦ inr (omega arith) | inr more ↦ inl (omega arith) ]
+      inside : low ≤ n → n ≤ high → ⊥
+      inside above within = let both : (nat_le low n && nat_le n high) ≡ true = grind (arith, nat_tests) in true≢false (sym both ∙ h)
+
+  -- so few parts of the supply are enough
+  pub between : (e : Expression) (es : List Expression) (least : ℕ) (others u : List ℕ) → AreLeast g (e ∷ es) (least ∷ others)
+      → components_on g (expressions_of (e ∷ es)) u ≡ by_parts least (length u - sum others) (listing g e) (components_on g (expressions_of es)) u
+  between e es least others u are_least =
+      left_out (on_split e es) (has_length least (length u - sum others)) (splits u) (λ split there left.
+      nothing_on e es least split are_least.0 (elim (outside least (length split.part) (length u - sum others) left) [
+        | inl below ↦ inl below
+        | inr over ↦ inr (none_below_all es others split.rest are_least.1 (omega (arith, over, split_length u split there)))
+      ]))

@@ -1,15 +1,15 @@
 -- The structures of a height are built up from those of the height below.
-use Rattle.std.proofs.Common.{◌≡◌, ℕ, zero, suc, ◌≤◌, List, ◌++◌, map, flat_map, length, refl, inl, inr, arith, Some}
+use Rattle.std.proofs.Common.{◌≡◌, ℕ, zero, suc, ◌≤◌, List, ◌++◌, map, flat_map, length, length-append, refl, inl, inr, arith, Some}
 use Rattle.std.proofs.lemmas.Bool.{cases_lt}
 use Rattle.spec_syntax.specs.Expression.{Expression, Expressions, no_expressions, more_expressions, expression_list}
 use Rattle.struct_model.specs.declared.tree.Form5.{Form5}
 use Rattle.struct_model.specs.declared.tree.Form5.TheVariants as form
-use Rattle.struct_model.specs.Structure.{Structure, Eps, Atom, Named, Alt, Tup, Structures, no_parts, more_parts}
+use Rattle.struct_model.specs.Structure.{Structure, Eps, Atom, Named, Alt, Tup, Structures, no_parts, more_parts, part_list, labels, labels_of_parts, size}
 use Rattle.struct_model.specs.Membership.{argument}
 use Rattle.struct_model.specs.Listing.{IsIn}
 use Rattle.struct_model.specs.Bounded.{Bounds, down_from, forms, part_lists, leaves, around, up_to_height}
-use Rattle.well_founded.proofs.NodesLaws.{in_left, in_right}
-use Rattle.listing_laws.proofs.Enumerated.{in_map, in_flat_map}
+use Rattle.struct_model.proofs.Within.{in_left, in_right}
+use Rattle.struct_model.proofs.Enumerated.{in_map, in_flat_map}
 
 in_down_from : (n x : ℕ) → x ≤ n → IsIn x (down_from n)
 in_down_from zero x h = inl (omega arith)
@@ -54,12 +54,19 @@ module _ (b : Bounds) where
   alt_within h x s low within =
       from_told h x (Alt x s) low (in_right (Alt x s) (map (Named x) (up_to_height b h)) (map (Alt x) (up_to_height b h)) (in_map (Alt x) s (up_to_height b h) within))
 
-  pub product_within : (h : ℕ) (ps : Structures) → IsIn ps (part_lists b.width (up_to_height b h)) → IsIn (Tup form.Prod ps) (up_to_height b (suc h))
+  in_forms : (f : Form5) → IsIn f forms
+  in_forms form.Prod = inl refl
+  in_forms form.Sequence = inr (inl refl)
+  in_forms form.Set = inr (inr (inl refl))
+  in_forms form.PowerSet = inr (inr (inr (inl refl)))
+  in_forms form.Cycle = inr (inr (inr (inr (inl refl))))
+
+  pub list_within : (h : ℕ) (f : Form5) (ps : Structures) → IsIn ps (part_lists b.width (up_to_height b h)) → IsIn (Tup f ps) (up_to_height b (suc h))
   unfolding told lists_of
-  product_within h ps within =
-      in_right (Tup form.Prod ps) (leaves b) (around b (up_to_height b h))
-      (in_right (Tup form.Prod ps) (flat_map (λ y. told y (up_to_height b h)) (down_from b.number)) (flat_map (lists_of (up_to_height b h)) forms)
-      (in_flat_map (lists_of (up_to_height b h)) form.Prod forms (Tup form.Prod ps) (inl refl) (in_map (Tup form.Prod) ps (part_lists b.width (up_to_height b h)) within)))
+  list_within h f ps within =
+      in_right (Tup f ps) (leaves b) (around b (up_to_height b h))
+      (in_right (Tup f ps) (flat_map (λ y. told y (up_to_height b h)) (down_from b.number)) (flat_map (lists_of (up_to_height b h)) forms)
+      (in_flat_map (lists_of (up_to_height b h)) f forms (Tup f ps) (in_forms f) (in_map (Tup f) ps (part_lists b.width (up_to_height b h)) within)))
 
 -- is each component one of these
 abbrev pub EachIn : List Structure → Structures → Type 0
@@ -77,6 +84,14 @@ in_part_lists (suc n) ss no_parts each h = inl refl
 in_part_lists (suc n) ss (more_parts s ps) each h =
     inr (in_flat_map (λ first. map (more_parts first) (part_lists n ss)) s ss (more_parts s ps) each.0
     (in_map (more_parts s) ps (part_lists n ss) (in_part_lists n ss ps each.1 (omega arith))))
+
+-- where each component has an atom, there are no more components than atoms
+pub few_parts : (ps : Structures) → ((t : Structure) → IsIn t (part_list ps) → size t ≡ 0 → ⊥) → part_count ps ≤ length (labels_of_parts ps)
+few_parts no_parts full = omega arith
+few_parts (more_parts s ps) full = elim (cases_lt 0 (size s)) [
+  | inl some ↦ omega (arith, some, few_parts ps (λ t there. full t (inr there)), length-append (labels s) (labels_of_parts ps))
+  | inr none ↦ absurd (full s (inl refl) (omega (arith, none)))
+]
 
 -- ---- the arguments of a Union
 

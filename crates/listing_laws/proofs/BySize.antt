@@ -3,8 +3,9 @@ use Rattle.std.specs.Prelude.{◌≡◌, ℕ, zero, suc, ◌+◌, ◌-◌, List,
 use Rattle.std.specs.List.{flat_map, filter, range_with_len}
 use Rattle.std.proofs.Common.{arith, ap, ◌∙◌}
 use Rattle.std.proofs.lemmas.List.{append-nil}
+use Rattle.std.proofs.lemmas.List.Folds.{flat_map-map}
 use Rattle.struct_model.specs.Structure.{Structure}
-use Rattle.listing_laws.specs.Splits.{Split, taking, leaving, begins_above, splits}
+use Rattle.splits.specs.Splits.{Split, taking, leaving, begins_above, splits}
 use Rattle.listing_laws.specs.Lister.{by_splits}
 use Rattle.listing_laws.specs.BySize.{by_sizes}
 
@@ -50,10 +51,6 @@ splits-replicate (suc n) =
     = tail_of_zeros n (splits (replicate n 0)) (splits-replicate n) in
     let all : splits (replicate (suc n) 0) ≡ of_zeros (suc n) 0 ∷ map (of_zeros (suc n)) (range_with_len 1 (n + 1)) = cc (tail, none_taken n) in
     all ∙ ap (λ (count : ℕ). map (of_zeros (suc n)) (range_with_len 0 count)) (suc_more n)
-
-flat_map-map : {X Y A : Type 0} (f : Y → List A) (g : X → Y) (xs : List X) → flat_map f (map g xs) ≡ flat_map (λ x. f (g x)) xs
-flat_map-map f g [] = refl
-flat_map-map f g (x ∷ xs) = ap (λ others. f (g x) ++ others) (flat_map-map f g xs)
 
 -- the splits of zeros give the sizes of the first component
 pub by_splits-by_sizes : (first : List ℕ → List Structure) (others : List ℕ → List (List Structure)) (n : ℕ)

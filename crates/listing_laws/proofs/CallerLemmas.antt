@@ -6,7 +6,28 @@ use Rattle.std.proofs.lemmas.Grind.{flat_map-append}
 use Rattle.struct_model.specs.Structure.{Structure, Alt}
 use Rattle.struct_model.specs.Listing.{IsIn}
 use Rattle.listing_laws.specs.Lister.{alternatives}
-use Rattle.listing_laws.proofs.Between.{range-append}
+
+-- ---- ranges
+
+pub range-append : (start a b : ℕ) → range_with_len start (a + b) ≡ range_with_len start a ++ range_with_len (start + a) b
+range-append start zero b = λ i. range_with_len (from start i) (none b i)
+  where
+    none : (b : ℕ) → zero + b ≡ b
+    none b = omega arith
+
+    from : (start : ℕ) → start ≡ start + 0
+    from start = omega arith
+range-append start (suc a) b =
+    ap (range_with_len start) (more a b) ∙ ap (λ rest. start ∷ rest) (range-append (start + 1) a b)
+    ∙ ap (λ (k : ℕ). start ∷ range_with_len (start + 1) a ++ range_with_len k b) (further start a)
+  where
+    more : (a b : ℕ) → suc a + b ≡ suc (a + b)
+    more a b = omega arith
+
+    further : (start a : ℕ) → start + 1 + a ≡ start + suc a
+    further start a = omega arith
+
+-- ---- elements
 
 pub in_at : {X : Type 0} (xs : List X) (i : ℕ) (d : X) → i < length xs → IsIn (get_or xs i d) xs
 in_at [] i d h = absurd (omega arith)

@@ -3,34 +3,30 @@ use Rattle.std.proofs.Common.{◌≡◌, ℕ, zero, suc, ◌<◌, ◌≤◌, tru
 use Rattle.std.specs.Cmp.Lexicographic.{bytes_decides}
 use Rattle.std.proofs.lemmas.Bool.{and_parts, and_from}
 use Rattle.spec_syntax.specs.Expression as expr
-use Rattle.spec_syntax.specs.Expression.{Expression}
-use Rattle.spec_syntax.specs.Rules.{symbol}
+use Rattle.spec_syntax.specs.Rules.{are_sequences}
 use Rattle.spec_syntax.specs.Grammar.{Grammar}
 use Rattle.struct_model.specs.Structure.{Structure, Eps, Atom, Named, Alt, Tup, Structures, no_parts, more_parts, nodes, nodes_of_parts, labels, size, ascending, key}
-use Rattle.struct_model.specs.Membership.{is_of, supply, is_member}
+use Rattle.struct_model.specs.Membership.{supply, same_labels, is_member}
 use Rattle.struct_model.specs.Listing.{IsIn, Ascends, IsOne}
 use Rattle.struct_model.specs.Bounded.{listing}
 use Rattle.well_founded.specs.declared.refused.Refused.{Refused}
 use Rattle.well_founded.specs.declared.refused.Refused.TheVariants.{Undefined, CycleUnlabelled, Unproductive, NullElement, Endless, Memory}
-use Rattle.well_founded.specs.Names.{is_plain, are_plain, undefined_name}
+use Rattle.well_founded.specs.Names.{undefined_name}
 use Rattle.well_founded.specs.Sets.{reading_sets}
 use Rattle.well_founded.specs.Inside.{IsInside, IsAmong}
 use Rattle.well_founded.specs.Sizes.{IsOf, IsLeast, no_least}
 use Rattle.well_founded.specs.WellFounded.{HoldsItself, HoldsCycle, HasNoStructure, HoldsNull, OfNone, IsEachProductive, IsCulprit, Checks}
-use Rattle.well_founded.specs.Least.{least_with, size_of_name, IsSize}
-use Rattle.well_founded.proofs.SetsLaws.{reading_sets_plain, plain_is}
-use Rattle.well_founded.proofs.LeastRounds.{sizes_exist}
-use Rattle.well_founded.proofs.EndlessLaws.{holds_leads, grow}
+use Rattle.well_founded.proofs.EndlessLaws.{grows}
 use Rattle.well_founded.proofs.CheckLaws.{first_in, first_not_none}
 use Rattle.well_founded.proofs.CheckExists.{some_check}
 use Rattle.well_founded.proofs.RankLaws.{ranks_exist}
 use Rattle.listing_laws.specs.Endless.{Differ, HasEndlesslyMany}
 use Rattle.listing_laws.specs.Laws.{IsListing, EndlessByMembers}
 use Rattle.listing_laws.proofs.Distinct.{no_longer}
-use Rattle.listing_laws.proofs.Labels.{ascending_same}
+use Rattle.struct_model.proofs.AscendingLabels.{ascending_same}
 use Rattle.listing_laws.proofs.Relabel.{relabel}
-use Rattle.listing_laws.proofs.RuleLaws.{no_rule_lists}
-use Rattle.listing_laws.proofs.Supplies.{supply_is, supply_rises, supply_allowed, supply_size}
+use Rattle.listing_laws.proofs.Sequences.{name_unread}
+use Rattle.struct_model.proofs.SupplyLaws.{supply_is, supply_rises, supply_allowed, supply_size}
 use Rattle.listing_laws.proofs.WellFoundedListed.{name_lists}
 
 mutual
@@ -50,15 +46,14 @@ mutual
   among_fewer t (more_parts s ps) (inr (inl h)) = omega (arith, inside_fewer t s h)
   among_fewer t (more_parts s ps) (inr (inr h)) = omega (arith, among_fewer t ps h)
 
-module _ (g : Grammar) (plain : are_plain g.rules ≡ true) where
-  member_from : (name : List ℕ) (n : ℕ) (s : Structure) → is_of g (expr.Name name) s ≡ true → key s ≡ supply g.universe n → is_member (reading_sets g) name n s ≡ true
-  member_from name n s of same =
-      subst (λ (h : Grammar). is_member h name n s ≡ true) (sym (reading_sets_plain g plain)) (and_from _ _ of ((bytes_decides (key s) (supply g.universe n)).1 same))
+module _ (g : Grammar) (sequences : are_sequences g.rules ≡ true) where
+  member_from : (name : List ℕ) (n : ℕ) (s : Structure) → IsOf g (expr.Name name) s → key s ≡ supply g.universe n → is_member (reading_sets g) name n s ≡ true
+  member_from name n s of same = and_from _ _ of ((bytes_decides (key s) (supply g.universe n)).1 same)
 
   from_member : (name : List ℕ) (n : ℕ) (s : Structure) → is_member (reading_sets g) name n s ≡ true → IsOne g (expr.Name name) (supply g.universe n) s
   from_member name n s member =
-      let both = and_parts _ _ (subst (λ (h : Grammar). is_member h name n s ≡ true) (reading_sets_plain g plain) member) in
-      (both.0, (bytes_decides (key s) (supply g.universe n)).0 both.1)
+      let both : IsOf g (expr.Name name) s × (same_labels (key s) (supply g.universe n) ≡ true) = and_parts _ _ member in
+      (name_unread g name s sequences both.0, (bytes_decides (key s) (supply g.universe n)).0 both.1)
 
   -- a class with a listing of the size has no more different members than there are in it
   pub listed_ends : (name : List ℕ) (n : ℕ) → IsListing g (expr.Name name) → HasEndlesslyMany g name n → ⊥
@@ -74,12 +69,12 @@ module _ (g : Grammar) (plain : are_plain g.rules ≡ true) where
 
   -- ---- one more, again and again
 
-  module _ (name : List ℕ) (n : ℕ) (grown : (t : Structure) → is_of g (expr.Name name) t ≡ true → (s : Structure) × (is_of g (expr.Name name) s ≡ true) × IsInside t s × (labels s ≡ labels t)) where
+  module _ (name : List ℕ) (n : ℕ) (grown : (t : Structure) → IsOf g (expr.Name name) t → (s : Structure) × IsOf g (expr.Name name) s × IsInside t s × (labels s ≡ labels t)) where
     -- so many different members, and one that has more nodes than each of them
     record Tower (k : ℕ) : Type 0 where
       top : Structure
       below : List Structure
-      top_of : is_of g (expr.Name name) top ≡ true
+      top_of : IsOf g (expr.Name name) top
       top_key : key top ≡ supply g.universe n
       many : length below ≡ k
       differ : Ascends Differ below
@@ -113,7 +108,7 @@ module _ (g : Grammar) (plain : are_plain g.rules ≡ true) where
         less : (low : ℕ) → low < nodes tower.top → nodes tower.top < nodes (grown tower.top tower.top_of).0 → low < nodes (grown tower.top tower.top_of).0
         less low below up = omega arith
 
-    tower_of : (k : ℕ) (first : Structure) → is_of g (expr.Name name) first ≡ true → key first ≡ supply g.universe n → Tower k
+    tower_of : (k : ℕ) (first : Structure) → IsOf g (expr.Name name) first → key first ≡ supply g.universe n → Tower k
     tower_of zero first of same = record {
       top = first;
       below = [];
@@ -126,63 +121,51 @@ module _ (g : Grammar) (plain : are_plain g.rules ≡ true) where
     }
     tower_of (suc k) first of same = higher k (tower_of k first of same)
 
-    pub endlessly : (first : Structure) → is_of g (expr.Name name) first ≡ true → key first ≡ supply g.universe n → HasEndlesslyMany g name n
+    pub endlessly : (first : Structure) → IsOf g (expr.Name name) first → key first ≡ supply g.universe n → HasEndlesslyMany g name n
     endlessly first of same k = let tower = tower_of k first of same in (tower.below, tower.many, tower.differ, tower.each_of)
 
-  numbered : (name : List ℕ) (s : Structure) → is_of g (expr.Name name) s ≡ true → (r : ℕ) × (symbol g.rules name ≡ Some r)
-  numbered name s of = by (symbol g.rules name) refl
-    where
-      by : (o : Option ℕ) → symbol g.rules name ≡ o → (r : ℕ) × (symbol g.rules name ≡ Some r)
-      by None none = absurd ((no_rule_lists g name (key s) none).complete s (of, refl))
-      by (Some r) found = (r, found)
-
-  supply_length : (s : Structure) → length (supply g.universe (size s)) ≡ size s
-  supply_length s = supply_size g.universe (size s)
-
-  -- a rule that holds itself has endlessly many members of one size
-  -- a rule that holds itself has endlessly many members of the size of any of its structures
-  pub holds_many : (name : List ℕ) → HoldsItself g name → (t : Structure) → IsOf g (expr.Name name) t → HasEndlesslyMany g name (size t)
-  holds_many name holds t is_of_t =
-      let table = sizes_exist g.rules plain in
-      let sizes = least_with (size_of_name g.rules table.0) in
-      let sized : (e : Expression) → is_plain e ≡ true → IsSize g e (sizes e) = λ e e_plain. table.1.each g.universe e e_plain in
-      let of = plain_is g (expr.Name name) t plain refl is_of_t in
-      let number = numbered name t of in
+  -- where a rule holds itself, and the other faults don't stand, it has endlessly many members of the size of any of its structures
+  pub holds_many : (name : List ℕ) → OfNone (HoldsCycle g) g.rules → OfNone (HoldsNull g) g.rules → HoldsItself g name → (t : Structure) → IsOf g (expr.Name name) t
+      → HasEndlesslyMany g name (size t)
+  holds_many name cycles nulls holds t of =
       let u = supply g.universe (size t) in
-      let first = relabel g plain t (expr.Name name) u refl of (supply_allowed g.universe u (supply_is g.universe (size t))) (supply_length t) in
-      endlessly name (size t)
-      (λ t of_t. grow g sizes plain sized name number.0 t number.1 (holds_leads g sizes plain sized name number.0 number.1 holds) of_t)
+      let first = relabel g sequences t (expr.Name name) u refl of (supply_allowed g.universe u (supply_is g.universe (size t))) (supply_size g.universe (size t)) in
+      endlessly name (size t) (λ s of_s. grows g name s cycles nulls holds of_s)
       first.0 first.1 (ap ascending first.2 ∙ ascending_same u (supply_rises g.universe u (supply_is g.universe (size t))))
 
   -- and so it has of its least size, where that is told
-  pub least_many : (name : List ℕ) (n : ℕ) → HoldsItself g name → IsLeast g (expr.Name name) n → n < no_least → HasEndlesslyMany g name n
-  least_many name n holds (inl exact) h = subst (HasEndlesslyMany g name) exact.1.has_size (holds_many name holds exact.1.smallest exact.1.is_of)
-  least_many name n holds (inr over) h = absurd (omega (arith, over.0, h))
+  pub least_many : (name : List ℕ) (n : ℕ) → OfNone (HoldsCycle g) g.rules → OfNone (HoldsNull g) g.rules → HoldsItself g name → IsLeast g (expr.Name name) n → n < no_least
+      → HasEndlesslyMany g name n
+  least_many name n cycles nulls holds (inl exact) h = subst (HasEndlesslyMany g name) exact.1.has_size (holds_many name cycles nulls holds exact.1.smallest exact.1.is_of)
+  least_many name n cycles nulls holds (inr over) h = absurd (omega (arith, over.0, h))
 
 -- ---- the law
 
 -- what the check says, where no other refusal holds and some class has endlessly many members, is that a rule is endless
-said_endless : (g : Grammar) (start : Option (List ℕ)) (x : List ℕ) (m : ℕ) (said : Option Refused) → are_plain g.rules ≡ true → Checks g start said
+said_endless : (g : Grammar) (start : Option (List ℕ)) (x : List ℕ) (m : ℕ) (said : Option Refused) → are_sequences g.rules ≡ true → Checks g start said
     → undefined_name g.rules start ≡ None → OfNone (HoldsCycle g) g.rules → IsEachProductive g → OfNone (HoldsNull g) g.rules → HasEndlesslyMany g x m
     → (name : List ℕ) × (n : ℕ) × IsCulprit g start (Endless name n)
-said_endless g start x m None plain checks undefined cycles productive nulls many =
-    let ranks = ranks_exist g plain checks.0 in
-    absurd (listed_ends g plain x m (name_lists g plain ranks.0 ranks.1 x) many)
-said_endless g start x m (Some (Undefined name)) plain checks undefined cycles productive nulls many = absurd (let both : None ≡ Some name = sym undefined ∙ checks in cc)
-said_endless g start x m (Some (CycleUnlabelled name)) plain checks undefined cycles productive nulls many = absurd (first_not_none (HoldsCycle g) g.rules name checks.1 cycles)
-said_endless g start x m (Some (Unproductive name)) plain checks undefined cycles productive nulls many =
+said_endless g start x m None sequences checks undefined cycles productive nulls many =
+    let ranks = ranks_exist g checks.0 in
+    absurd (listed_ends g sequences x m (name_lists g nulls ranks.0 ranks.1 x) many)
+said_endless g start x m (Some (Undefined name)) sequences checks undefined cycles productive nulls many =
+    absurd (let both : None ≡ Some name = sym undefined ∙ checks in cc)
+said_endless g start x m (Some (CycleUnlabelled name)) sequences checks undefined cycles productive nulls many =
+    absurd (first_not_none (HoldsCycle g) g.rules name checks.1 cycles)
+said_endless g start x m (Some (Unproductive name)) sequences checks undefined cycles productive nulls many =
     absurd (checks.2.holds (productive name checks.2.right (first_in (HasNoStructure g) g.rules name checks.2)))
-said_endless g start x m (Some (NullElement name)) plain checks undefined cycles productive nulls many = absurd (first_not_none (HoldsNull g) g.rules name checks.3 nulls)
-said_endless g start x m (Some (Endless name n)) plain checks undefined cycles productive nulls many = (name, n, checks)
-said_endless g start x m (Some Memory) plain checks undefined cycles productive nulls many = absurd checks
+said_endless g start x m (Some (NullElement name)) sequences checks undefined cycles productive nulls many =
+    absurd (first_not_none (HoldsNull g) g.rules name checks.3 nulls)
+said_endless g start x m (Some (Endless name n)) sequences checks undefined cycles productive nulls many = (name, n, checks)
+said_endless g start x m (Some Memory) sequences checks undefined cycles productive nulls many = absurd checks
 
 pub endless_by_members : EndlessByMembers
 endless_by_members = record {
-  many = λ g start name n spec plain culprit.
+  many = λ g start name n spec sequences culprit.
       let holds = culprit.4.holds in
-      (name, size holds.inner, holds_many g plain name holds holds.inner holds.is_inner);
-  told = λ g start name n spec plain culprit small. least_many g plain name n culprit.4.holds culprit.5 small;
-  endless = λ g start x m spec plain undefined cycles productive nulls many.
-      let check = some_check g start plain in
-      said_endless g start x m check.0 plain check.1 undefined cycles productive nulls many;
+      (name, size holds.inner, holds_many g sequences name culprit.1 culprit.3 holds holds.inner holds.is_inner);
+  told = λ g start name n spec sequences culprit small. least_many g sequences name n culprit.1 culprit.3 culprit.4.holds culprit.5 small;
+  endless = λ g start x m spec sequences undefined cycles productive nulls many.
+      let check = some_check g start in
+      said_endless g start x m check.0 sequences check.1 undefined cycles productive nulls many;
 }

@@ -2,35 +2,26 @@
 use Rattle.std.proofs.Common.{◌≡◌, ℕ, zero, suc, ◌+◌, ◌-◌, ◌<◌, List, map, replicate, length, sym, ap, ◌∙◌, subst, inl, inr, arith}
 use Rattle.std.specs.List.{range_with_len}
 use Rattle.std.proofs.lemmas.List.{length-replicate}
+use Rattle.spec_syntax.specs.declared.statement.Universe.TheVariants.{Unlabelled}
 use Rattle.spec_syntax.specs.Expression as expr
 use Rattle.spec_syntax.specs.Expression.{Expression, Expressions, no_expressions, more_expressions}
 use Rattle.spec_syntax.specs.Grammar.{Grammar}
 use Rattle.struct_model.specs.Structure.{Structure}
 use Rattle.struct_model.specs.Listing.{IsIn, Lists}
 use Rattle.struct_model.proofs.ListingLaws.{one_listing}
-use Rattle.listing_laws.specs.Splits.{Split, splits}
+use Rattle.splits.specs.Splits.{Split}
 use Rattle.listing_laws.specs.Lister.{list_no_components, alternatives, by_splits, product}
 use Rattle.listing_laws.specs.BySize.{by_sizes}
-use Rattle.listing_laws.specs.Laws.{IsSplit, PartBefore, SplitsAreListed, UnionIsListed, ListsSplits, ListsSizes, ProdIsListed, WordsAreListed}
-use Rattle.listing_laws.proofs.Enumerated.{from_map}
-use Rattle.listing_laws.proofs.Enumerated as enumerated
-use Rattle.listing_laws.proofs.Labels.{AtLeast, Rises}
-use Rattle.listing_laws.proofs.SplitLaws.{MakesUp, splits_are}
+use Rattle.listing_laws.specs.Laws.{UnionIsListed, ListsSplits, ListsSizes, ProdIsListed, WordsAreListed}
+use Rattle.struct_model.proofs.Enumerated.{from_map}
+use Rattle.struct_model.proofs.AscendingLabels.{Rises}
+use Rattle.splits.proofs.SplitLaws.{splits_are}
 use Rattle.listing_laws.proofs.Arguments.{union_is}
 use Rattle.listing_laws.proofs.Components.{no_components_are, by_splits_are, products_are, components_are}
 use Rattle.listing_laws.proofs.RuleLaws.{rule_lists}
 use Rattle.listing_laws.proofs.Hub.{epsilon_lists, atom_lists}
-use Rattle.listing_laws.proofs.Supplies.{supply_rises, split_supplies}
+use Rattle.struct_model.proofs.SupplyLaws.{supply_rises, supply_is}
 use Rattle.listing_laws.proofs.BySize.{of_zeros, splits-replicate, by_splits-by_sizes}
-
-pub splits_are_listed : SplitsAreListed
-splits_are_listed universe u supplied =
-    let rises : Rises u = supply_rises universe u supplied in
-    enumerated.same_property PartBefore (MakesUp u) (IsSplit universe u) (splits u) (splits_are u rises)
-    (λ split s.
-    let both = split_supplies universe u supplied split s in
-    record { part = both.0; rest = both.1; whole = s.whole })
-    (λ split s. record { part = supply_rises universe split.part s.part; rest = supply_rises universe split.rest s.rest; whole = s.whole })
 
 pub union_is_listed : UnionIsListed
 union_is_listed = record {
@@ -47,12 +38,7 @@ prod_lists g e es u first others rises h =
     (λ split s. components_are g es split.rest (others split.rest) (h split ((splits_are u rises).complete split s)).1))
 
 zeros_rise : (n : ℕ) → Rises (replicate n 0)
-zeros_rise zero = tt
-zeros_rise (suc n) = (least n, zeros_rise n)
-  where
-    least : (m : ℕ) → AtLeast 0 (replicate m 0)
-    least zero = tt
-    least (suc m) = (omega arith, least m)
+zeros_rise n = supply_rises Unlabelled (replicate n 0) (supply_is Unlabelled n)
 
 pub in_range : (start count size : ℕ) → IsIn size (range_with_len start count) → size < start + count
 in_range start zero size h = absurd h

@@ -10,7 +10,7 @@ use Rattle.struct_model.specs.Order.{order}
 use Rattle.struct_model.specs.Listing.{IsIn, Ascends, Enumerated, Before, IsOne, Lists}
 use Rattle.struct_model.specs.Bounded.{Bounds, bounded, put, in_order, is_one, listing_within}
 use Rattle.struct_model.proofs.OrderLaws.{order_total, order_same}
-use Rattle.listing_laws.proofs.Enumerated.{in_filter, from_filter}
+use Rattle.struct_model.proofs.Enumerated.{in_filter, from_filter}
 
 after_back : (s t : Structure) → order s t ≡ Greater → Before t s
 after_back s t h = order_total.antisymm t s ∙ ap ordering_reverse h

@@ -1,18 +1,20 @@
 mod ListerCases
 pub mod BySize
-pub mod Enumerated
-pub mod Labels
-pub mod SplitLaws
 pub mod OrderFacts
+pub mod OrderKept
+pub mod Changed
+pub mod SetsRead
+pub mod Sequences
 pub mod Arguments
 pub mod Components
-pub mod Numbers
+pub mod Repeated
+pub mod Containers
 pub mod RuleLaws
 pub mod Hub
 pub mod BuildingUp
 pub mod FilterLaws
-pub mod Supplies
 pub mod Equations
+pub mod Alike
 pub mod Sizes
 pub mod CallerLemmas
 pub mod Ranked

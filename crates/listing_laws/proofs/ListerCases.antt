@@ -1,14 +1,16 @@
 -- Worked cases of splits and of what is listed, by computing. Names list with at most so many rules inside one another.
-use Rattle.std.specs.Prelude.{◌≡◌, ℕ, zero, suc, List, [], ◌∷◌, map, refl, codes}
+use Rattle.std.specs.Prelude.{◌≡◌, ℕ, zero, suc, List, [], ◌∷◌, map, Some, None, refl, codes}
 use Rattle.std.specs.Option.{option_map_or}
-use Rattle.spec_syntax.specs.declared.statement.Universe.TheVariants.{Unlabelled}
+use Rattle.spec_syntax.specs.declared.statement.Universe.TheVariants.{Labelled, Unlabelled}
+use Rattle.spec_syntax.specs.declared.expr.Kind.TheVariants as kind
 use Rattle.spec_syntax.specs.Expression as expr
 use Rattle.spec_syntax.specs.Expression.{Expression, expressions_of}
 use Rattle.spec_syntax.specs.Rules.{symbol, right_side}
 use Rattle.spec_syntax.specs.Grammar.{Grammar}
 use Rattle.struct_model.specs.Structure.{Structure, Eps, Atom, Named, Alt}
-use Rattle.listing_laws.specs.Splits.{Split, splits}
-use Rattle.listing_laws.specs.Lister.{Names, product, list_with, named}
+use Rattle.splits.specs.Splits.{Split, splits}
+use Rattle.listing_laws.specs.Lister.{Names, product, sequence, list_with, named}
+use Rattle.listing_laws.specs.Relabelled.{relabelled}
 
 abbrev split : List ℕ → List ℕ → Split
 split part rest = record { part = part; rest = rest }
@@ -95,3 +97,45 @@ name_of_epsilon = refl
 
 no_rule : lists_to_depth worded 4 (expr.Name (codes "X")) [] ≡ []
 no_rule = refl
+
+-- S = Sequence(Union(Z, Prod(Z, Z)), 2 >= card)
+abbrev short : Grammar
+short = unlabelled (
+    (codes "S", expr.Many kind.Sequence (expr.Union (expressions_of (expr.Atom ∷ expr.Prod (expressions_of (expr.Atom ∷ expr.Atom ∷ [])) ∷ []))) (record { low = 0; high = Some 2 }))
+    ∷ [])
+
+abbrev one : Structure
+one = Alt 1 z
+
+abbrev two : Structure
+two = Alt 2 (product (z ∷ z ∷ []))
+
+short_of_size_3 : lists_to_depth short 1 (expr.Name (codes "S")) (0 ∷ 0 ∷ 0 ∷ []) ≡ Named 1 (sequence (one ∷ two ∷ [])) ∷ Named 1 (sequence (two ∷ one ∷ [])) ∷ []
+short_of_size_3 = refl
+
+short_of_size_5 : lists_to_depth short 1 (expr.Name (codes "S")) (0 ∷ 0 ∷ 0 ∷ 0 ∷ 0 ∷ []) ≡ []
+short_of_size_5 = refl
+
+short_of_size_0 : lists_to_depth short 1 (expr.Name (codes "S")) [] ≡ Named 1 (sequence []) ∷ []
+short_of_size_0 = refl
+
+-- S = Sequence(Z, card >= 2), labelled
+abbrev ordered : Grammar
+ordered = record { rules = (codes "S", expr.Many kind.Sequence expr.Atom (record { low = 2; high = None })) ∷ []; universe = Labelled }
+
+abbrev a : ℕ → Structure
+a label = Atom 0 label
+
+ordered_of_size_3 : lists_to_depth ordered 1 (expr.Name (codes "S")) (1 ∷ 2 ∷ 3 ∷ []) ≡
+    Named 1 (sequence (a 1 ∷ a 2 ∷ a 3 ∷ [])) ∷ Named 1 (sequence (a 1 ∷ a 3 ∷ a 2 ∷ [])) ∷ Named 1 (sequence (a 2 ∷ a 1 ∷ a 3 ∷ []))
+    ∷ Named 1 (sequence (a 2 ∷ a 3 ∷ a 1 ∷ [])) ∷ Named 1 (sequence (a 3 ∷ a 1 ∷ a 2 ∷ [])) ∷ Named 1 (sequence (a 3 ∷ a 2 ∷ a 1 ∷ [])) ∷ []
+ordered_of_size_3 = refl
+
+ordered_of_size_1 : lists_to_depth ordered 1 (expr.Name (codes "S")) (1 ∷ []) ≡ []
+ordered_of_size_1 = refl
+
+ordered_elsewhere : lists_to_depth ordered 1 (expr.Name (codes "S")) (3 ∷ 7 ∷ []) ≡ map (relabelled (3 ∷ 7 ∷ [])) (lists_to_depth ordered 1 (expr.Name (codes "S")) (1 ∷ 2 ∷ []))
+ordered_elsewhere = refl
+
+labels_in_places : relabelled (3 ∷ 7 ∷ []) (product (a 2 ∷ a 1 ∷ [])) ≡ product (a 7 ∷ a 3 ∷ [])
+labels_in_places = refl

@@ -4,38 +4,42 @@ use Rattle.std.specs.Option.{option_map_or}
 use Rattle.std.proofs.lemmas.Bool.{and_parts, eqb-true, cases_lt}
 use Rattle.std.proofs.lemmas.Nat.{mul-le}
 use Rattle.std.proofs.lemmas.Option.{slice_get_within}
+use Rattle.spec_syntax.specs.declared.expr.Card.{Card}
+use Rattle.spec_syntax.specs.declared.expr.Kind.{Kind}
 use Rattle.spec_syntax.specs.Expression as expr
 use Rattle.spec_syntax.specs.Expression.{Expression, Expressions, no_expressions, more_expressions, expression_list, expressions_of}
 use Rattle.spec_syntax.specs.Rules.{Rules, symbol, right_side, all_nodes}
 use Rattle.spec_syntax.specs.Grammar.{Grammar}
+use Rattle.spec_syntax.proofs.RulesLemmas.{symbol-within}
+use Rattle.struct_model.specs.declared.tree.Form5.{Form5}
 use Rattle.struct_model.specs.declared.tree.Form5.TheVariants as form
 use Rattle.struct_model.specs.Structure.{Structure, Eps, Atom, Named, Alt, Tup, Structures, no_parts, more_parts, part_list, labels, labels_of_parts, size}
-use Rattle.struct_model.specs.Membership.{is_of, are_of_each, argument, names, is_epsilon, is_atom}
+use Rattle.struct_model.specs.Membership.{is_of, are_of, are_of_each, argument, names, is_epsilon, is_atom}
 use Rattle.struct_model.specs.Listing.{IsIn}
 use Rattle.struct_model.specs.Bounded.{Bounds, argument_count, up_to_height}
-use Rattle.well_founded.specs.Names.{is_plain, are_plain}
 use Rattle.well_founded.specs.Nodes.{node_at, right_node, children_of, below}
 use Rattle.well_founded.specs.NodeView.{arguments_of}
 use Rattle.well_founded.specs.Rank.{StandsAt, AreRanks}
-use Rattle.well_founded.proofs.SetsLaws.{is_plain_of}
-use Rattle.well_founded.proofs.NodesLaws.{in_nodes, node_of, get_right, child_node, length-children_of, right_node_is, node_plain}
+use Rattle.well_founded.specs.WellFounded.{HoldsNull, OfNone}
+use Rattle.well_founded.proofs.NodesLaws.{in_nodes, node_of, get_right, child_node, length-children_of, right_node_is}
+use Rattle.well_founded.proofs.CheckSteps.{slice_some}
+use Rattle.well_founded.proofs.EndlessLaws.{in_size, node_full}
+use Rattle.well_founded.proofs.LeastRounds.{right_of}
+use Rattle.well_founded.proofs.ManyLaws.{component_is}
+use Rattle.well_founded.proofs.SameSizeCode.{list_of}
 use Rattle.well_founded.proofs.LeastLaws.{held}
-use Rattle.listing_laws.proofs.Labels.{Each, each_left, each_right}
-use Rattle.listing_laws.proofs.Numbers.{symbol_bounds, right_side_there}
+use Rattle.listing_laws.specs.Laws.{IsNeverEmpty}
+use Rattle.listing_laws.proofs.Containers.{list_is, no_list, container_is, component_stands}
+use Rattle.listing_laws.proofs.SetsRead.{in_sets, size-in_sets, stands_in_sets, read_of}
+use Rattle.struct_model.proofs.AscendingLabels.{Each, each_left, each_right}
 use Rattle.listing_laws.proofs.RuleLaws.{inside}
-use Rattle.listing_laws.proofs.BuildingUp.{eps_within, atom_within, named_within, alt_within, product_within, EachIn, part_count, in_part_lists, argument_number}
+use Rattle.listing_laws.proofs.BuildingUp.{eps_within, atom_within, named_within, alt_within, list_within, EachIn, part_count, few_parts, in_part_lists, argument_number}
 
--- the expression whose structures stand at this place in those of the first: a name's right side, an argument or a component
+-- the expression whose structures stand at this place in those of the first: a name's right side, an argument, a component or
+-- the element of a container
 abbrev pub ArgumentAt : Rules → Expression → ℕ → Expression → Type 0
 ArgumentAt rules (expr.Name name) place f = (place ≡ 0) × (x : ℕ) × (symbol rules name ≡ Some x) × (right_side rules x ≡ Some f)
-ArgumentAt rules (expr.Union es) place f = slice_get (expression_list es) place ≡ Some f
-ArgumentAt rules (expr.Prod es) place f = slice_get (expression_list es) place ≡ Some f
-ArgumentAt rules e place f = ⊥
-
-there_at : {X : Type 0} (xs : List X) (i : ℕ) → i < length xs → (x : X) × (slice_get xs i ≡ Some x)
-there_at [] i h = absurd (omega arith)
-there_at (x ∷ xs) zero h = (x, refl)
-there_at (x ∷ xs) (suc i) h = there_at xs i (omega arith)
+ArgumentAt rules e place f = slice_get (arguments_of e) place ≡ Some f
 
 argument_place : (es : Expressions) (k : ℕ) (e : Expression) → argument es k ≡ Some e → (place : ℕ) × (k ≡ suc place) × (slice_get (expression_list es) place ≡ Some e)
 argument_place no_expressions k e found = absurd (cc)
@@ -44,10 +48,6 @@ argument_place (more_expressions first es) (suc zero) e found = (0, refl, found)
 argument_place (more_expressions first es) (suc (suc k)) e found =
     let rest : (place : ℕ) × (suc k ≡ suc place) × (slice_get (expression_list es) place ≡ Some e) = argument_place es (suc k) e found in
     (suc rest.0, ap suc rest.1, rest.2)
-
-pub expressions_back : (es : List Expression) → expression_list (expressions_of es) ≡ es
-expressions_back [] = refl
-expressions_back (e ∷ es) = ap (λ others. e ∷ others) (expressions_back es)
 
 -- where a size falls or stays with a lower rank, so does the measure
 measure_falls : (total k m r q : ℕ) → k ≤ m → q < total → (k ≡ m → q < r) → k * total + q < m * total + r
@@ -68,7 +68,7 @@ one_less (suc h) k low = (h, refl, omega arith)
 pub child : (rules : Rules) (n place : ℕ) (e f : Expression) → node_at rules n ≡ Some e → slice_get (arguments_of e) place ≡ Some f
     → (m : ℕ) × (slice_get (children_of n e) place ≡ Some m) × (node_at rules m ≡ Some f)
 child rules n place e f there at =
-    let found = there_at (children_of n e) place (omega (arith, slice_get_within (arguments_of e) place f at, length-children_of n e)) in
+    let found = slice_some (children_of n e) place (omega (arith, slice_get_within (arguments_of e) place f at, length-children_of n e)) in
     (found.0, found.1, child_node rules n e place found.0 there found.1 ∙ at)
 
 -- what stands at a place below a node is a node
@@ -82,7 +82,8 @@ below_node rules n place (expr.Name name) f there at = (
 )
 below_node rules n place (expr.Union es) f there at = child rules n place (expr.Union es) f there at
 below_node rules n place (expr.Prod es) f there at = child rules n place (expr.Prod es) f there at
-below_node rules n place e f there at = absurd at
+below_node rules n place (expr.Many kind e card) f there at = child rules n place (expr.Many kind e card) f there at
+below_node rules n place e f there at = absurd (cc)
 
 -- an argument of a node's expression is a node's expression
 pub child_at : (rules : Rules) (e : Expression) (earlier : List Expression) (f : Expression) (later : List Expression) → IsIn e (all_nodes rules)
@@ -93,7 +94,13 @@ child_at rules e earlier f later there whole =
     let found = child rules node.0 (length earlier + 0) e f node.1 place in
     in_nodes rules found.0 f found.2
 
-module _ (g : Grammar) (plain : are_plain g.rules ≡ true) (ranks : List ℕ) (ranked : AreRanks g ranks) where
+-- no structure of a container's element is empty
+pub element_full : (g : Grammar) (kind : Kind) (e : Expression) (card : Card) → OfNone (HoldsNull g) g.rules → IsIn (expr.Many kind e card) (all_nodes g.rules) → IsNeverEmpty g e
+element_full g kind e card full there s of empty =
+    let node = node_of g.rules (expr.Many kind e card) there in
+    node_full g node.0 (expr.Many kind e card) full node.1 (in_sets s) (read_of g s e of) (size-in_sets s ∙ empty)
+
+module _ (g : Grammar) (full : OfNone (HoldsNull g) g.rules) (ranks : List ℕ) (ranked : AreRanks g ranks) where
   abbrev total : ℕ
   total = length (all_nodes g.rules)
 
@@ -106,7 +113,7 @@ module _ (g : Grammar) (plain : are_plain g.rules ≡ true) (ranks : List ℕ) (
   pub rank_of : (n : ℕ) (e : Expression) → node_at g.rules n ≡ Some e → (r : ℕ) × (slice_get ranks n ≡ Some r) × (r < total)
   rank_of n e there =
       let short = slice_get_within (all_nodes g.rules) n e there in
-      let found = there_at ranks n (omega (arith, short, ranked.for_each)) in
+      let found = slice_some ranks n (omega (arith, short, ranked.for_each)) in
       (found.0, found.1, (ranked.each n found.0 e there found.1).within)
 
   -- the expression at a place below a node is a node's, and where the size stays its rank is lower
@@ -127,37 +134,44 @@ module _ (g : Grammar) (plain : are_plain g.rules ≡ true) (ranks : List ℕ) (
         falls = λ s t of_s of_t stands same.
             (ranked.each node.number r e node.there node.has_rank).falls place found.0 has.0 f found.1 found.2 has.1
             (record {
-              outer = s;
-              inner = t;
-              is_outer = is_plain_of g e s plain (node_plain g.rules node.number e plain node.there) of_s;
-              is_inner = is_plain_of g f t plain (node_plain g.rules found.0 f plain found.2) of_t;
-              stands = stands;
-              same_size = same;
+              outer = in_sets s;
+              inner = in_sets t;
+              is_outer = read_of g s e of_s;
+              is_inner = read_of g t f of_t;
+              stands = stands_in_sets s place t stands;
+              same_size = size-in_sets t ∙ same ∙ sym (size-in_sets s);
             });
       }
 
   module _ (b : Bounds) (most : ℕ) (rules_fit : length g.rules ≤ b.number) (arguments_fit : most ≤ b.number) (components_fit : most ≤ b.width)
       (narrow : (n : ℕ) (e : Expression) → node_at g.rules n ≡ Some e → argument_count e ≤ most) where
+    -- these labels lie within the bounds, and are no more than components may be
     abbrev Small : List ℕ → Type 0
-    Small ls = Each (λ l. l ≤ b.label) ls
+    Small ls = Each (λ l. l ≤ b.label) ls × (length ls ≤ b.width)
+
+    small_left : (ls ms : List ℕ) → Small (ls ++ ms) → Small ls
+    small_left ls ms small = (each_left _ ls ms small.0, omega (arith, small.1, length-append ls ms))
+
+    small_right : (ls ms : List ℕ) → Small (ls ++ ms) → Small ms
+    small_right ls ms small = (each_right _ ls ms small.0, omega (arith, small.1, length-append ls ms))
 
     rule_number : (name : List ℕ) (x : ℕ) (has : Expression → Bool) → names g name x has ≡ true → x ≤ b.number
     rule_number name x has h =
         let found = held (nat_eq x) (symbol g.rules name) (and_parts _ _ h).0 in
-        let bound = symbol_bounds g.rules name found.0 found.1 in
+        let bound = symbol-within g.rules name found.0 found.1 in
         omega (arith, bound.1, eqb-true x found.0 found.2, rules_fit)
 
-    pub eps_number : (x : ℕ) (e : Expression) → is_plain e ≡ true → is_of g e (Eps x) ≡ true → x ≤ b.number
-    eps_number x expr.Epsilon p h = omega (arith, eqb-true x 0 h)
-    eps_number x (expr.Name name) p h = rule_number name x is_epsilon h
-    eps_number x (expr.Many kind element card) p h = absurd (true≢false (sym p))
-    eps_number x e p h = absurd (true≢false (sym h))
+    eps_number : (x : ℕ) (e : Expression) → is_of g e (Eps x) ≡ true → x ≤ b.number
+    eps_number x expr.Epsilon h = omega (arith, eqb-true x 0 h)
+    eps_number x (expr.Name name) h = rule_number name x is_epsilon h
+    eps_number x (expr.Many kind element card) h = absurd (true≢false (sym h ∙ no_list g kind element card (Eps x) refl))
+    eps_number x e h = absurd (true≢false (sym h))
 
-    pub atom_number : (x l : ℕ) (e : Expression) → is_plain e ≡ true → is_of g e (Atom x l) ≡ true → x ≤ b.number
-    atom_number x l expr.Atom p h = omega (arith, eqb-true x 0 (and_parts _ _ h).0)
-    atom_number x l (expr.Name name) p h = rule_number name x is_atom (and_parts _ _ h).0
-    atom_number x l (expr.Many kind element card) p h = absurd (true≢false (sym p))
-    atom_number x l e p h = absurd (true≢false (sym h))
+    atom_number : (x l : ℕ) (e : Expression) → is_of g e (Atom x l) ≡ true → x ≤ b.number
+    atom_number x l expr.Atom h = omega (arith, eqb-true x 0 (and_parts _ _ h).0)
+    atom_number x l (expr.Name name) h = rule_number name x is_atom (and_parts _ _ h).0
+    atom_number x l (expr.Many kind element card) h = absurd (true≢false (sym h ∙ no_list g kind element card (Atom x l) refl))
+    atom_number x l e h = absurd (true≢false (sym h))
 
     component_count : (es : Expressions) (ps : Structures) → are_of_each g es ps ≡ true → part_count ps ≡ length (expression_list es)
     component_count no_expressions no_parts h = refl
@@ -175,8 +189,8 @@ module _ (g : Grammar) (plain : are_plain g.rules ≡ true) (ranks : List ℕ) (
     inside_rule : (name : List ℕ) (x : ℕ) (s : Structure) → is_of g (expr.Name name) (Named x s) ≡ true → InsideRule name x s
     inside_rule name x s h =
         let numbered = held (nat_eq x) (symbol g.rules name) (and_parts _ _ h).0 in
-        let bound = symbol_bounds g.rules name numbered.0 numbered.1 in
-        let side = right_side_there g.rules numbered.0 bound.0 bound.1 in
+        let bound = symbol-within g.rules name numbered.0 numbered.1 in
+        let side = right_of g.rules numbered.0 bound.0 bound.1 in
         let found = inside g name numbered.0 side.0 numbered.1 side.1 x s h in
         record {
           right = side.0;
@@ -224,10 +238,34 @@ module _ (g : Grammar) (plain : are_plain g.rules ≡ true) (ranks : List ℕ) (
         let falls = measure_falls total (size t) (length (labels_of_parts ps)) r low.rank part.within low.small (low.falls (Tup form.Prod ps) t of part.of t_at) in
         record { rank = low.rank; is_node = low.is_node; low = omega (arith, falls, high) }
 
+    -- each of the components of a container is so low
+    abbrev AllLow : ℕ → Expression → Structures → Type 0
+    AllLow h e ps = (t : Structure) → IsIn t (part_list ps) → IsLow h e t
+
+    elements_low : (r : ℕ) (kind : Kind) (e : Expression) (card : Card) (f : Form5) (ps : Structures) (h : ℕ) → IsNode r (expr.Many kind e card)
+        → is_of g (expr.Many kind e card) (Tup f ps) ≡ true → length (labels_of_parts ps) * total + r ≤ h → AllLow h e ps
+    elements_low r kind e card f ps h node of high t there =
+        let container = container_is g kind e card f ps of in
+        let low : Below r (expr.Many kind e card) 0 e = below_is r 0 (expr.Many kind e card) e node refl in
+        let of_t = component_is g e ps t container.are there in
+        let falls = measure_falls total (size t) (length (labels_of_parts ps)) r low.rank (in_size ps t there) low.small
+        (low.falls (Tup f ps) t of of_t (component_stands g kind f ps t container.has_form there)) in
+        record { rank = low.rank; is_node = low.is_node; low = omega (arith, falls, high) }
+
+    -- there are at most as many components as labels
+    few_components : (kind : Kind) (e : Expression) (card other : Card) (f : Form5) (ps : Structures) → IsIn (expr.Many kind e card) (all_nodes g.rules)
+        → is_of g (expr.Many kind e other) (Tup f ps) ≡ true → Small (labels_of_parts ps) → part_count ps ≤ b.width
+    few_components kind e card other f ps there of small =
+        omega (
+          arith,
+          small.1,
+          few_parts ps (λ t at. element_full g kind e card full there t (component_is g e ps t (container_is g kind e other f ps of).are at)),
+        )
+
     mutual
       pub within : (s : Structure) (e : Expression) (r h : ℕ) → IsNode r e → is_of g e s ≡ true → Small (labels s) → size s * total + r < h → IsIn s (up_to_height b h)
-      within (Eps x) e r h node of small high = eps_within b h x (eps_number x e (node_plain g.rules node.number e plain node.there) of)
-      within (Atom x l) e r h node of small high = atom_within b h x l (atom_number x l e (node_plain g.rules node.number e plain node.there) of) small.0
+      within (Eps x) e r h node of small high = eps_within b h x (eps_number x e of)
+      within (Atom x l) e r h node of small high = atom_within b h x l (atom_number x l e of) small.0.0
       within (Named x s) (expr.Name name) r h node of small high =
           let rule : InsideRule name x s = inside_rule name x s of in
           let low : Below r (expr.Name name) 0 rule.right = below_is r 0 (expr.Name name) rule.right node rule.at in
@@ -235,7 +273,7 @@ module _ (g : Grammar) (plain : are_plain g.rules ≡ true) (ranks : List ℕ) (
           let less = one_less h (size s * total + r) high in
           subst (λ (n : ℕ). IsIn (Named x s) (up_to_height b n)) (sym less.1)
           (named_within b less.0 x s rule.fits (within s rule.right low.rank less.0 low.is_node rule.of small (omega (arith, falls, less.2))))
-      within (Named x s) (expr.Many kind element card) r h node of small high = absurd (true≢false (sym (node_plain g.rules node.number _ plain node.there)))
+      within (Named x s) (expr.Many kind e card) r h node of small high = absurd (true≢false (sym of ∙ no_list g kind e card (Named x s) refl))
       within (Named x s) e r h node of small high = absurd (true≢false (sym of))
       within (Alt k s) (expr.Union es) r h node of small high =
           let found = held (λ e. is_of g e s) (argument es k) of in
@@ -246,31 +284,47 @@ module _ (g : Grammar) (plain : are_plain g.rules ≡ true) (ranks : List ℕ) (
           subst (λ (n : ℕ). IsIn (Alt k s) (up_to_height b n)) (sym less.1)
           (alt_within b less.0 k s (omega (arith, argument_number es k found.0 found.1, narrow node.number (expr.Union es) node.there, arguments_fit))
           (within s found.0 low.rank less.0 low.is_node found.2 small (omega (arith, falls, less.2))))
-      within (Alt k s) (expr.Many kind element card) r h node of small high = absurd (true≢false (sym (node_plain g.rules node.number _ plain node.there)))
+      within (Alt k s) (expr.Many kind e card) r h node of small high = absurd (true≢false (sym of ∙ no_list g kind e card (Alt k s) refl))
       within (Alt k s) e r h node of small high = absurd (true≢false (sym of))
-      within (Tup form.Prod ps) (expr.Prod es) r h node of small high =
-          let less = one_less h (size (Tup form.Prod ps) * total + r) high in
-          subst (λ (n : ℕ). IsIn (Tup form.Prod ps) (up_to_height b n)) (sym less.1)
-          (product_within b less.0 ps (in_part_lists b.width (up_to_height b less.0) ps
-          (parts_within ps es less.0 (components_low r es ps less.0 node of less.2) of small)
-          (omega (arith, component_count es ps of, narrow node.number (expr.Prod es) node.there, components_fit))))
-      within (Tup form ps) (expr.Many kind element card) r h node of small high = absurd (true≢false (sym (node_plain g.rules node.number _ plain node.there)))
-      within (Tup form ps) e r h node of small high = absurd (true≢false (sym of))
+      within (Tup f ps) (expr.Prod es) r h node of small high =
+          let list = list_is g (expr.Prod es) f ps of in
+          let is_prod : is_of g (expr.Prod es) (Tup form.Prod ps) ≡ true = list.1 in
+          let less = one_less h (size (Tup f ps) * total + r) high in
+          subst (λ (n : ℕ). IsIn (Tup f ps) (up_to_height b n)) (sym less.1)
+          (list_within b less.0 f ps (in_part_lists b.width (up_to_height b less.0) ps
+          (parts_within ps es less.0 (components_low r es ps less.0 node is_prod less.2) is_prod small)
+          (omega (arith, component_count es ps is_prod, narrow node.number (expr.Prod es) node.there, components_fit))))
+      within (Tup f ps) (expr.Many kind e card) r h node of small high =
+          let less = one_less h (size (Tup f ps) * total + r) high in
+          subst (λ (n : ℕ). IsIn (Tup f ps) (up_to_height b n)) (sym less.1)
+          (list_within b less.0 f ps (in_part_lists b.width (up_to_height b less.0) ps
+          (elements_within ps e less.0 (elements_low r kind e card f ps less.0 node of less.2) (container_is g kind e card f ps of).are small)
+          (few_components kind e card card f ps (in_nodes g.rules node.number (expr.Many kind e card) node.there) of small)))
+      within (Tup f ps) e r h node of small high = absurd (true≢false (sym of))
 
-      pub parts_within : (ps : Structures) (es : Expressions) (h : ℕ) → AreLow h es ps → are_of_each g es ps ≡ true → Small (labels_of_parts ps) → EachIn (up_to_height b h) ps
+      parts_within : (ps : Structures) (es : Expressions) (h : ℕ) → AreLow h es ps → are_of_each g es ps ≡ true → Small (labels_of_parts ps) → EachIn (up_to_height b h) ps
       parts_within no_parts es h low of small = tt
       parts_within (more_parts s ps) no_expressions h low of small = absurd (true≢false (sym of))
       parts_within (more_parts s ps) (more_expressions e es) h low of small =
           let both = and_parts _ _ of in
           let first : IsLow h e s = low 0 e s refl refl in (
-            within s e first.rank h first.is_node both.0 (each_left _ (labels s) (labels_of_parts ps) small) first.low,
-            parts_within ps es h (λ i. low (suc i)) both.1 (each_right _ (labels s) (labels_of_parts ps) small),
+            within s e first.rank h first.is_node both.0 (small_left (labels s) (labels_of_parts ps) small) first.low,
+            parts_within ps es h (λ i. low (suc i)) both.1 (small_right (labels s) (labels_of_parts ps) small),
+          )
+
+      elements_within : (ps : Structures) (e : Expression) (h : ℕ) → AllLow h e ps → are_of g e ps ≡ true → Small (labels_of_parts ps) → EachIn (up_to_height b h) ps
+      elements_within no_parts e h low of small = tt
+      elements_within (more_parts s ps) e h low of small =
+          let both = and_parts _ _ of in
+          let first : IsLow h e s = low s (inl refl) in (
+            within s e first.rank h first.is_node both.0 (small_left (labels s) (labels_of_parts ps) small) first.low,
+            elements_within ps e h (λ t there. low t (inr there)) both.1 (small_right (labels s) (labels_of_parts ps) small),
           )
 
     -- a structure of a name, whether or not the name is a node's expression
     pub name_within : (s : Structure) (name : List ℕ) (h : ℕ) → is_of g (expr.Name name) s ≡ true → Small (labels s) → size s * total + total ≤ h → IsIn s (up_to_height b (suc h))
-    name_within (Eps x) name h of small high = eps_within b (suc h) x (eps_number x (expr.Name name) refl of)
-    name_within (Atom x l) name h of small high = atom_within b (suc h) x l (atom_number x l (expr.Name name) refl of) small.0
+    name_within (Eps x) name h of small high = eps_within b (suc h) x (eps_number x (expr.Name name) of)
+    name_within (Atom x l) name h of small high = atom_within b (suc h) x l (atom_number x l (expr.Name name) of) small.0.0
     name_within (Named x s) name h of small high =
         let rule : InsideRule name x s = inside_rule name x s of in
         let there : node_at g.rules (right_node g.rules rule.at.1) ≡ Some rule.right = right_node_is g.rules rule.at.1 rule.right rule.at.3 in
@@ -279,27 +333,31 @@ module _ (g : Grammar) (plain : are_plain g.rules ≡ true) (ranks : List ℕ) (
         (within s rule.right has.0 h (record { number = right_node g.rules rule.at.1; there = there; has_rank = has.1 }) rule.of small (omega (arith, has.2, high)))
     name_within s name h of small high = absurd (true≢false (sym of))
 
+    -- a component of a list with more room than it needs
+    part_low : (rank : ℕ) (f : Expression) (t : Structure) (all h : ℕ) → IsNode rank f → rank < total → size t ≤ all → all * total + total ≤ h → IsLow h f t
+    part_low rank f t all h node low within high = record {
+      rank = rank;
+      is_node = node;
+      low = omega (arith, high, low, mul-le (size t) total all total within (omega arith));
+    }
+
     suffix_low : (earlier later : List Expression) (ps : Structures) (n h : ℕ) → node_at g.rules n ≡ Some (expr.Prod (expressions_of (earlier ++ later)))
         → are_of_each g (expressions_of later) ps ≡ true → length (labels_of_parts ps) * total + total ≤ h → AreLow h (expressions_of later) ps
     suffix_low earlier later ps n h there of high i f t f_at t_at =
         let part = part_is (expressions_of later) ps i f t of f_at t_at in
         let has = rank_of n (expr.Prod (expressions_of (earlier ++ later))) there in
         let at : slice_get (expression_list (expressions_of (earlier ++ later))) (length earlier + i) ≡ Some f =
-        ap (λ es. slice_get es (length earlier + i)) (expressions_back (earlier ++ later)) ∙ get_right earlier later (length earlier + i) i refl
-        ∙ ap (λ es. slice_get es i) (sym (expressions_back later)) ∙ f_at in
+        ap (λ es. slice_get es (length earlier + i)) (list_of (earlier ++ later)) ∙ get_right earlier later (length earlier + i) i refl
+        ∙ ap (λ es. slice_get es i) (sym (list_of later)) ∙ f_at in
         let low : Below has.0 (expr.Prod (expressions_of (earlier ++ later))) (length earlier + i) f =
         below_is has.0 (length earlier + i) (expr.Prod (expressions_of (earlier ++ later))) f (record { number = n; there = there; has_rank = has.1 }) at in
-        record {
-          rank = low.rank;
-          is_node = low.is_node;
-          low = omega (arith, high, low.small, mul-le (size t) total (length (labels_of_parts ps)) total part.within (omega arith));
-        }
+        part_low low.rank f t (length (labels_of_parts ps)) h low.is_node low.small part.within high
 
     -- a structure of the last components of a node's Prod
     pub suffix_within : (s : Structure) (earlier later : List Expression) (n h : ℕ) → node_at g.rules n ≡ Some (expr.Prod (expressions_of (earlier ++ later)))
         → is_of g (expr.Prod (expressions_of later)) s ≡ true → Small (labels s) → size s * total + total ≤ h → IsIn s (up_to_height b (suc h))
     suffix_within (Tup form.Prod ps) earlier later n h there of small high =
-        product_within b h ps (in_part_lists b.width (up_to_height b h) ps
+        list_within b h form.Prod ps (in_part_lists b.width (up_to_height b h) ps
         (parts_within ps (expressions_of later) h (suffix_low earlier later ps n h there of high) of small)
         (omega (
           arith,
@@ -307,7 +365,19 @@ module _ (g : Grammar) (plain : are_plain g.rules ≡ true) (ranks : List ℕ) (
           narrow n (expr.Prod (expressions_of (earlier ++ later))) there,
           components_fit,
           length-append earlier later,
-          ap (λ (es : List Expression). length es) (expressions_back later),
-          ap (λ (es : List Expression). length es) (expressions_back (earlier ++ later)),
+          ap (λ (es : List Expression). length es) (list_of later),
+          ap (λ (es : List Expression). length es) (list_of (earlier ++ later)),
         )))
     suffix_within s earlier later n h there of small high = absurd (true≢false (sym of))
+
+    -- a structure of a node's container with another bound
+    pub bound_within : (s : Structure) (kind : Kind) (e : Expression) (card other : Card) (n h : ℕ) → node_at g.rules n ≡ Some (expr.Many kind e card)
+        → is_of g (expr.Many kind e other) s ≡ true → Small (labels s) → size s * total + total ≤ h → IsIn s (up_to_height b (suc h))
+    bound_within (Tup f ps) kind e card other n h there of small high =
+        let has = rank_of n (expr.Many kind e card) there in
+        let low : Below has.0 (expr.Many kind e card) 0 e = below_is has.0 0 (expr.Many kind e card) e (record { number = n; there = there; has_rank = has.1 }) refl in
+        list_within b h f ps (in_part_lists b.width (up_to_height b h) ps
+        (elements_within ps e h (λ t at. part_low low.rank e t (length (labels_of_parts ps)) h low.is_node low.small (in_size ps t at) high)
+        (container_is g kind e other f ps of).are small)
+        (few_components kind e card other f ps (in_nodes g.rules n (expr.Many kind e card) there) of small))
+    bound_within s kind e card other n h there of small high = absurd (true≢false (sym of ∙ no_list g kind e other s refl))

@@ -1,35 +1,53 @@
 -- The listing of an expression by the listings of those inside it.
-use Rattle.std.proofs.Common.{◌≡◌, ℕ, true, List, [], ◌∷◌, ◌++◌, map, replicate, refl, sym, ◌∙◌, subst, arith, true≢false, Some, None}
+use Rattle.std.proofs.Common.{◌≡◌, ℕ, zero, suc, ◌+◌, ◌*◌, ◌<◌, ◌≤◌, true, List, [], ◌∷◌, ◌++◌, map, flat_map, replicate, length, length-append, refl, sym, ap, ◌∙◌, subst, inl, inr, arith, true≢false, Some, None}
+use Rattle.std.specs.Prelude.{if◌then◌else◌}
 use Rattle.std.proofs.lemmas.Bool.{and_parts, eqb-true}
 use Rattle.std.proofs.lemmas.List.{append_assoc}
+use Rattle.std.proofs.lemmas.Nat.{mul-le}
+use Rattle.spec_syntax.specs.declared.expr.Card.{Card}
+use Rattle.spec_syntax.specs.declared.expr.Kind.TheVariants as kind
+use Rattle.spec_syntax.specs.Card.{admits}
 use Rattle.spec_syntax.specs.Expression as expr
 use Rattle.spec_syntax.specs.Expression.{Expression, Expressions, no_expressions, more_expressions, expression_list, expressions_of}
 use Rattle.spec_syntax.specs.Rules.{symbol, right_side, all_nodes}
 use Rattle.spec_syntax.specs.Grammar.{Grammar}
-use Rattle.struct_model.specs.Structure.{Structure, Eps, Atom}
-use Rattle.struct_model.specs.Membership.{is_supply}
+use Rattle.struct_model.specs.declared.tree.Form5.{Form5}
+use Rattle.struct_model.specs.declared.tree.Form5.TheVariants as form
+use Rattle.struct_model.specs.Structure.{Structure, Eps, Atom, Tup, Structures, no_parts, more_parts, part_list, parts_of, labels, labels_of_parts}
+use Rattle.struct_model.specs.Membership.{is_of, are_of, supply, is_supply}
 use Rattle.struct_model.specs.Listing.{IsIn, IsOne}
 use Rattle.struct_model.specs.Bounded.{bounds, bounded, listing}
-use Rattle.well_founded.specs.Names.{are_plain}
 use Rattle.well_founded.specs.Nodes.{right_node}
 use Rattle.well_founded.specs.NodeView.{arguments_of}
 use Rattle.well_founded.specs.Rank.{AreRanks}
-use Rattle.well_founded.proofs.NodesLaws.{node_of, in_nodes, node_plain, right_node_is}
+use Rattle.well_founded.specs.Sizes.{IsLeast}
+use Rattle.well_founded.specs.WellFounded.{HoldsNull, OfNone}
+use Rattle.well_founded.proofs.NodesLaws.{in_nodes, right_node_is}
+use Rattle.well_founded.proofs.ManyLaws.{low_admitted}
 use Rattle.well_founded.proofs.RankLaws.{ranks_exist}
-use Rattle.listing_laws.specs.Lister.{list_epsilon, list_atom, alternatives, product, named}
+use Rattle.well_founded.proofs.SameSizeCode.{list_of}
+use Rattle.splits.specs.Splits.{Split, splits}
+use Rattle.splits.specs.Parts.{has_length, parts}
+use Rattle.listing_laws.specs.Lister.{list_epsilon, list_atom, alternatives, each_before, by_parts, after_one, admits_some, list_repeated, product, sequence, named}
 use Rattle.listing_laws.specs.BySize.{by_sizes}
-use Rattle.listing_laws.specs.Recursion.{components_on, components_of, listing_of_size}
+use Rattle.listing_laws.specs.Recursion.{components_on, repeated_on, components_of, listing_of_size}
+use Rattle.listing_laws.specs.Relabelled.{relabelled, relabelled_parts}
 use Rattle.listing_laws.specs.Laws.{IsListing, ListsEach, WellFoundedIsListed, ListingsRecur}
+use Rattle.listing_laws.proofs.Alike.{supplies_are_alike}
 use Rattle.listing_laws.proofs.Arguments.{union_is}
-use Rattle.listing_laws.proofs.Between.{All_plain, between}
+use Rattle.listing_laws.proofs.Between.{is_empty, not_smaller, between}
 use Rattle.listing_laws.proofs.BySize.{by_splits-by_sizes}
 use Rattle.listing_laws.proofs.BuildingUp.{eps_within, atom_within}
-use Rattle.listing_laws.proofs.Components.{ListsComponents, no_components_are, by_splits_are, products_are}
+use Rattle.listing_laws.proofs.Components.{same_components, ListsComponents, no_components_are, by_splits_are, products_are}
+use Rattle.struct_model.proofs.Enumerated.{from_filter}
 use Rattle.listing_laws.proofs.Hub.{epsilon_lists, atom_lists}
-use Rattle.listing_laws.proofs.Ranked.{expressions_back, child_at}
+use Rattle.listing_laws.proofs.Ranked.{child_at, element_full}
+use Rattle.listing_laws.proofs.Repeated.{some_in, ListsRepeated, sequences_are, repeated_are}
 use Rattle.listing_laws.proofs.RuleLaws.{rule_lists, no_rule_lists}
-use Rattle.listing_laws.proofs.Supplies.{supply_rises, split_supplies}
-use Rattle.listing_laws.proofs.WellFoundedListed.{listing_from, label_bound, node_lists, name_lists, suffix_lists}
+use Rattle.listing_laws.proofs.Sizes.{length-ascending}
+use Rattle.struct_model.proofs.SupplyLaws.{supply_is, supply_rises}
+use Rattle.splits.proofs.SplitSupplies.{split_length, split_supplies}
+use Rattle.listing_laws.proofs.WellFoundedListed.{listing_from, label_bound, node_lists, name_lists, suffix_lists, bound_lists}
 
 -- ---- the words
 
@@ -76,63 +94,204 @@ by_size g no_expressions n = refl
 by_size g (more_expressions e es) n =
     by_splits-by_sizes (listing g e) (components_on g es) n ∙ (λ i. by_sizes (listing_of_size g e) (λ size. by_size g es size i) n)
 
-module _ (g : Grammar) (plain : are_plain g.rules ≡ true) (ranks : List ℕ) (ranked : AreRanks g ranks) where
+-- ---- Sequences
+
+same_made : {X A : Type 0} (f h : X → List A) (xs : List X) → ((x : X) → IsIn x xs → f x ≡ h x) → flat_map f xs ≡ flat_map h xs
+same_made f h [] same = refl
+same_made f h (x ∷ xs) same = λ i. same x (inl refl) i ++ same_made f h xs (λ y there. same y (inr there)) i
+
+-- without a part that has a label, fewer labels remain
+fewer_left : (u : List ℕ) (split : Split) → IsIn split (parts 1 (length u) u) → length split.rest < length u
+fewer_left u split there =
+    let found = from_filter (has_length 1 (length u)) split (splits u) there in
+    omega (arith, split_length u split found.0, some_in (length u) split found.1)
+
+same_others : (first : List ℕ → List Structure) (others also : List ℕ → List (List Structure)) (u : List ℕ)
+    → ((v : List ℕ) → length v < length u → others v ≡ also v) → by_parts 1 (length u) first others u ≡ by_parts 1 (length u) first also u
+same_others first others also u same =
+    same_made (λ (split : Split). each_before (first split.part) (others split.rest)) (λ (split : Split). each_before (first split.part) (also split.rest)) (parts 1 (length u) u)
+    (λ split there. ap (each_before (first split.part)) (same split.rest (fewer_left u split there)))
+
+-- how many components may come at most doesn't matter, where it is no less than the labels
+enough_repeated : (first : List ℕ → List Structure) (n m : ℕ) (card : Card) (u : List ℕ) → length u ≤ n → length u ≤ m → list_repeated first n card u ≡ list_repeated first m card u
+enough_repeated first n m card [] h k = refl
+enough_repeated first zero m card (label ∷ ls) h k = absurd (omega arith)
+enough_repeated first (suc n) zero card (label ∷ ls) h k = absurd (omega arith)
+enough_repeated first (suc n) (suc m) card (label ∷ ls) h k =
+    ap (λ (some : List (List Structure)). if admits_some card then some else [])
+    (same_others first (list_repeated first n (after_one card)) (list_repeated first m (after_one card)) (label ∷ ls)
+    (λ v fewer. enough_repeated first n m (after_one card) v (omega (arith, fewer, h)) (omega (arith, fewer, k))))
+
+pub repeated : (g : Grammar) (e : Expression) (card : Card) (u : List ℕ) → 0 < length u
+    → repeated_on g e card u ≡ (if admits_some card then by_parts 1 (length u) (listing g e) (repeated_on g e (after_one card)) u else [])
+repeated g e card [] some = absurd (omega arith)
+repeated g e card (label ∷ ls) some =
+    ap (λ (some : List (List Structure)). if admits_some card then some else [])
+    (same_others (listing g e) (list_repeated (listing g e) (length ls) (after_one card)) (repeated_on g e (after_one card)) (label ∷ ls)
+    (λ v fewer. enough_repeated (listing g e) (length ls) (length v) (after_one card) v (omega (arith, fewer)) (omega arith)))
+
+-- components of one expression are together at least as large as the least size for each
+copies_below : (g : Grammar) (e : Expression) (least : ℕ) (ps : Structures) → IsLeast g e least → are_of g e ps ≡ true → length (part_list ps) * least ≤ length (labels_of_parts ps)
+copies_below g e least no_parts is_least of = omega (arith, none least)
+  where
+    none : (n : ℕ) → 0 * n ≡ 0
+    none n = grind arith
+copies_below g e least (more_parts s ps) is_least of =
+    let both : (is_of g e s ≡ true) × (are_of g e ps ≡ true) = and_parts _ _ of in
+    omega (
+      arith,
+      one_more (length (part_list ps)) least,
+      not_smaller g e least s is_least both.0,
+      copies_below g e least ps is_least both.1,
+      length-append (labels s) (labels_of_parts ps),
+    )
+  where
+    one_more : (k n : ℕ) → suc k * n ≡ n + k * n
+    one_more k n = grind arith
+
+-- ---- on any supply as on the first labels
+
+pub alike : (g : Grammar) (e : Expression) (u : List ℕ) → is_supply g.universe u ≡ true → IsListing g e → listing g e u ≡ map (relabelled u) (listing g e (supply g.universe (length u)))
+alike g e u supplied is_listing =
+    let first : List ℕ = supply g.universe (length u) in
+    sym (is_listing.only u (map (relabelled u) (listing g e first)) supplied
+    (supplies_are_alike.lists g e u (listing g e first) supplied (is_listing.lists first (supply_is g.universe (length u)))))
+
+relabelled_list : (u : List ℕ) (ss : List Structure) → relabelled_parts u (parts_of ss) ≡ parts_of (map (relabelled u) ss)
+relabelled_list u [] = refl
+relabelled_list u (s ∷ ss) = ap (more_parts (relabelled u s)) (relabelled_list u ss)
+
+module _ (form : Form5) where
+  abbrev together : List Structure → Structure
+  together ss = Tup form (parts_of ss)
+
+  relabelled_together : (u : List ℕ) (sss : List (List Structure)) → map (relabelled u) (map together sss) ≡ map together (map (map (relabelled u)) sss)
+  relabelled_together u [] = refl
+  relabelled_together u (ss ∷ sss) = λ i. Tup form (relabelled_list u ss i) ∷ relabelled_together u sss i
+
+  same_lists : (sss others : List (List Structure)) → map together sss ≡ map together others → sss ≡ others
+  same_lists [] [] same = refl
+  same_lists [] (ts ∷ others) same = cc
+  same_lists (ss ∷ sss) [] same = cc
+  same_lists (ss ∷ sss) (ts ∷ others) same =
+      let heads : together ss ≡ together ts = cc in
+      let tails : map together sss ≡ map together others = cc in
+      λ i. same_components form ss ts heads i ∷ same_lists sss others tails i
+
+  -- lists of components are alike where they are when put together
+  alike_together : (u : List ℕ) (whole first : List Structure) (sss others : List (List Structure)) → whole ≡ map (relabelled u) first
+      → whole ≡ map together sss → first ≡ map together others → sss ≡ map (map (relabelled u)) others
+  alike_together u whole first sss others same is_whole is_first =
+      same_lists sss (map (map (relabelled u)) others) (sym is_whole ∙ same ∙ ap (map (relabelled u)) is_first ∙ relabelled_together u others)
+
+module _ (g : Grammar) (full : OfNone (HoldsNull g) g.rules) (ranks : List ℕ) (ranked : AreRanks g ranks) where
   pub name_recurs : (name : List ℕ) (n : ℕ) (right : Expression) (u : List ℕ) → symbol g.rules name ≡ Some n → right_side g.rules n ≡ Some right
       → is_supply g.universe u ≡ true → listing g (expr.Name name) u ≡ map (named n) (listing g right u)
   name_recurs name n right u numbered sided supplied =
       let there = in_nodes g.rules (right_node g.rules n) right (right_node_is g.rules n right sided) in
-      sym ((name_lists g plain ranks ranked name).only u (map (named n) (listing g right u)) supplied
-      (rule_lists g name n right numbered sided u (listing g right u) ((node_lists g plain ranks ranked right there).lists u supplied)))
+      sym ((name_lists g full ranks ranked name).only u (map (named n) (listing g right u)) supplied
+      (rule_lists g name n right numbered sided u (listing g right u) ((node_lists g full ranks ranked right there).lists u supplied)))
 
   children_lists : (e : Expression) → IsIn e (all_nodes g.rules) → (earlier later : List Expression) → arguments_of e ≡ earlier ++ later → AreListings g later
   children_lists e there earlier [] whole = tt
   children_lists e there earlier (f ∷ later) whole = (
-    node_lists g plain ranks ranked f (child_at g.rules e earlier f later there whole),
+    node_lists g full ranks ranked f (child_at g.rules e earlier f later there whole),
     children_lists e there (earlier ++ f ∷ []) later (whole ∙ sym (append_assoc earlier (f ∷ []) later)),
   )
 
   pub union_recurs : (es : Expressions) (u : List ℕ) → IsIn (expr.Union es) (all_nodes g.rules) → is_supply g.universe u ≡ true
       → listing g (expr.Union es) u ≡ alternatives 1 (map (λ e. listing g e u) (expression_list es))
   union_recurs es u there supplied =
-      sym ((node_lists g plain ranks ranked (expr.Union es) there).only u (alternatives 1 (map (λ e. listing g e u) (expression_list es))) supplied
+      sym ((node_lists g full ranks ranked (expr.Union es) there).only u (alternatives 1 (map (λ e. listing g e u) (expression_list es))) supplied
       (union_is g u es (map (λ e. listing g e u) (expression_list es)) (each_lists g es u supplied (children_lists (expr.Union es) there [] (expression_list es) refl))))
 
   pub prod_recurs : (earlier later : List Expression) (u : List ℕ) → IsIn (expr.Prod (expressions_of (earlier ++ later))) (all_nodes g.rules) → is_supply g.universe u ≡ true
       → listing g (expr.Prod (expressions_of later)) u ≡ map product (components_on g (expressions_of later) u)
   prod_recurs earlier later u there supplied =
-      sym ((suffix_lists g plain ranks ranked earlier later there).only u (map product (components_on g (expressions_of later) u)) supplied
+      sym ((suffix_lists g full ranks ranked earlier later there).only u (map product (components_on g (expressions_of later) u)) supplied
       (products_are g (expressions_of later) u (components_on g (expressions_of later) u)
       (components_lists g (expressions_of later) u supplied
-      (subst (AreListings g) (sym (expressions_back later))
-      (children_lists (expr.Prod (expressions_of (earlier ++ later))) there earlier later (expressions_back (earlier ++ later)))))))
+      (subst (AreListings g) (sym (list_of later))
+      (children_lists (expr.Prod (expressions_of (earlier ++ later))) there earlier later (list_of (earlier ++ later)))))))
+
+  repeated_lists : (e : Expression) (card other : Card) (u : List ℕ) → IsIn (expr.Many kind.Sequence e card) (all_nodes g.rules) → is_supply g.universe u ≡ true
+      → ListsRepeated g e other u (repeated_on g e other u)
+  repeated_lists e card other u there supplied =
+      let is_listing = node_lists g full ranks ranked e (child_at g.rules (expr.Many kind.Sequence e card) [] e [] there refl) in
+      repeated_are g e (element_full g kind.Sequence e card full there) (listing g e) is_listing.lists (length u) other u supplied (omega arith)
+
+  pub sequence_recurs : (e : Expression) (card other : Card) (u : List ℕ) → IsIn (expr.Many kind.Sequence e card) (all_nodes g.rules) → is_supply g.universe u ≡ true
+      → listing g (expr.Many kind.Sequence e other) u ≡ map sequence (repeated_on g e other u)
+  sequence_recurs e card other u there supplied =
+      sym ((bound_lists g full ranks ranked kind.Sequence e card other there).only u (map sequence (repeated_on g e other u)) supplied
+      (sequences_are g e other u (repeated_on g e other u) (repeated_lists e card other u there supplied)))
+
+  pub few_repeated : (e : Expression) (card other : Card) (least : ℕ) (u : List ℕ) → is_supply g.universe u ≡ true → IsIn (expr.Many kind.Sequence e card) (all_nodes g.rules)
+      → IsLeast g e least → length u < other.low * least → repeated_on g e other u ≡ []
+  few_repeated e card other least u supplied there is_least few = is_empty (repeated_on g e other u) never
+    where
+      never : (ss : List Structure) → IsIn ss (repeated_on g e other u) → ⊥
+      never ss within =
+          let one = (repeated_lists e card other u there supplied).sound ss within in
+          let both = and_parts (admits other (length (part_list (parts_of ss)))) (are_of g e (parts_of ss)) one.0 in
+          let size_is : length (labels_of_parts (parts_of ss)) ≡ length u = sym (length-ascending (labels_of_parts (parts_of ss))) ∙ ap length one.1 in
+          omega (
+            arith,
+            few,
+            size_is,
+            copies_below g e least (parts_of ss) is_least both.1,
+            mul-le other.low least (length (part_list (parts_of ss))) least (low_admitted other (length (part_list (parts_of ss))) both.0) (omega arith),
+          )
+
+  pub components_alike : (earlier later : List Expression) (u : List ℕ) → IsIn (expr.Prod (expressions_of (earlier ++ later))) (all_nodes g.rules) → is_supply g.universe u ≡ true
+      → components_on g (expressions_of later) u ≡ map (map (relabelled u)) (components_on g (expressions_of later) (supply g.universe (length u)))
+  components_alike earlier later u there supplied =
+      let prod : Expression = expr.Prod (expressions_of later) in
+      let first : List ℕ = supply g.universe (length u) in
+      alike_together form.Prod u (listing g prod u) (listing g prod first) (components_on g (expressions_of later) u) (components_on g (expressions_of later) first)
+      (alike g prod u supplied (suffix_lists g full ranks ranked earlier later there)) (prod_recurs earlier later u there supplied)
+      (prod_recurs earlier later first there (supply_is g.universe (length u)))
+
+  pub repeated_alike : (e : Expression) (card other : Card) (u : List ℕ) → IsIn (expr.Many kind.Sequence e card) (all_nodes g.rules) → is_supply g.universe u ≡ true
+      → repeated_on g e other u ≡ map (map (relabelled u)) (repeated_on g e other (supply g.universe (length u)))
+  repeated_alike e card other u there supplied =
+      let many : Expression = expr.Many kind.Sequence e other in
+      let first : List ℕ = supply g.universe (length u) in
+      alike_together form.Sequence u (listing g many u) (listing g many first) (repeated_on g e other u) (repeated_on g e other first)
+      (alike g many u supplied (bound_lists g full ranks ranked kind.Sequence e card other there)) (sequence_recurs e card other u there supplied)
+      (sequence_recurs e card other first there (supply_is g.universe (length u)))
 
 -- ---- the laws
 
 pub well_founded_is_listed : WellFoundedIsListed
 well_founded_is_listed = record {
-  names = λ g name spec plain founded. let found = ranks_exist g plain founded in name_lists g plain found.0 found.1 name;
-  nodes = λ g e spec plain founded there. let found = ranks_exist g plain founded in node_lists g plain found.0 found.1 e there;
-  suffixes = λ g earlier later spec plain founded there. let found = ranks_exist g plain founded in suffix_lists g plain found.0 found.1 earlier later there;
+  names = λ g name spec founded. let found = ranks_exist g founded in name_lists g founded.no_null_elements found.0 found.1 name;
+  nodes = λ g e spec founded there. let found = ranks_exist g founded in node_lists g founded.no_null_elements found.0 found.1 e there;
+  suffixes = λ g earlier later spec founded there. let found = ranks_exist g founded in suffix_lists g founded.no_null_elements found.0 found.1 earlier later there;
+  bounds = λ g kind e card other spec founded there. let found = ranks_exist g founded in bound_lists g founded.no_null_elements found.0 found.1 kind e card other there;
 }
-
-pub plain_from : (g : Grammar) (plain : are_plain g.rules ≡ true) (e : Expression) → IsIn e (all_nodes g.rules) → (earlier later : List Expression)
-    → arguments_of e ≡ earlier ++ later → All_plain g plain later
-plain_from g plain e there earlier [] whole = tt
-plain_from g plain e there earlier (f ∷ later) whole =
-    let node = node_of g.rules f (child_at g.rules e earlier f later there whole) in
-    (node_plain g.rules node.0 f plain node.1, plain_from g plain e there (earlier ++ f ∷ []) later (whole ∙ sym (append_assoc earlier (f ∷ []) later)))
 
 pub listings_recur : ListingsRecur
 listings_recur = record {
   epsilon = epsilon;
   atom = atom;
   no_rule = no_rule;
-  name = λ g name n right u spec plain founded numbered sided supplied.
-      let found = ranks_exist g plain founded in name_recurs g plain found.0 found.1 name n right u numbered sided supplied;
-  union = λ g es u spec plain founded there supplied. let found = ranks_exist g plain founded in union_recurs g plain found.0 found.1 es u there supplied;
-  prod = λ g earlier later u spec plain founded there supplied. let found = ranks_exist g plain founded in prod_recurs g plain found.0 found.1 earlier later u there supplied;
+  name = λ g name n right u spec founded numbered sided supplied.
+      let found = ranks_exist g founded in name_recurs g founded.no_null_elements found.0 found.1 name n right u numbered sided supplied;
+  union = λ g es u spec founded there supplied. let found = ranks_exist g founded in union_recurs g founded.no_null_elements found.0 found.1 es u there supplied;
+  prod = λ g earlier later u spec founded there supplied.
+      let found = ranks_exist g founded in prod_recurs g founded.no_null_elements found.0 found.1 earlier later u there supplied;
   by_size = by_size;
-  between = λ g earlier e later least others n plain there are_least.
-      between g plain e later least others n
-      (plain_from g plain (expr.Prod (expressions_of (earlier ++ e ∷ later))) there earlier (e ∷ later) (expressions_back (earlier ++ e ∷ later))) are_least;
+  between = λ g earlier e later least others u spec founded supplied there are_least. between g e later least others u are_least;
+  sequence = λ g e card other u spec founded there supplied.
+      let found = ranks_exist g founded in sequence_recurs g founded.no_null_elements found.0 found.1 e card other u there supplied;
+  empty = λ g e card. refl;
+  repeated = repeated;
+  few = λ g e card other least u spec founded supplied there is_least few.
+      let found = ranks_exist g founded in few_repeated g founded.no_null_elements found.0 found.1 e card other least u supplied there is_least few;
+  alike = alike;
+  alike_components = λ g earlier later u spec founded there supplied.
+      let found = ranks_exist g founded in components_alike g founded.no_null_elements found.0 found.1 earlier later u there supplied;
+  alike_repeated = λ g e card other u spec founded there supplied.
+      let found = ranks_exist g founded in repeated_alike g founded.no_null_elements found.0 found.1 e card other u there supplied;
 }

@@ -3,24 +3,22 @@ use Rattle.std.proofs.Common.{◌≡◌, ◌⊎◌, ℕ, zero, suc, Bool, true, 
 use Rattle.std.specs.Option.{option_map_or}
 use Rattle.std.specs.Cmp.Lexicographic.{slice_cmp}
 use Rattle.std.specs.Ordering.{ordering_then}
-use Rattle.std.proofs.lemmas.Bool.{and_parts, and_from, eqb-true, eq-eqb}
+use Rattle.std.proofs.lemmas.Bool.{and_parts, and_from, eqb-true}
 use Rattle.std.proofs.lemmas.Cmp.{nat_cmp_total, tied_itself}
 use Rattle.std.proofs.lemmas.Bool.Decides.{nat_tests}
 use Rattle.spec_syntax.specs.Expression as expr
-use Rattle.spec_syntax.specs.Expression.{Expression, Expressions}
-use Rattle.spec_syntax.specs.declared.expr.Kind.{Kind}
-use Rattle.spec_syntax.specs.declared.expr.Kind.TheVariants as kind
-use Rattle.spec_syntax.specs.declared.expr.Card.{Card}
+use Rattle.spec_syntax.specs.Expression.{Expression}
 use Rattle.spec_syntax.specs.Rules.{symbol, right_side}
 use Rattle.spec_syntax.specs.Grammar.{Grammar}
+use Rattle.spec_syntax.proofs.RulesLemmas.{symbol-within}
 use Rattle.struct_model.specs.Structure.{Structure, Eps, Atom, Named, labels, ascending, key}
 use Rattle.struct_model.specs.Order.{key_order, order_within}
 use Rattle.struct_model.specs.Membership.{is_of, names, is_epsilon, is_atom, is_label}
 use Rattle.struct_model.specs.Listing.{Before, IsOne, Lists}
-use Rattle.well_founded.proofs.LeastLaws.{held}
+use Rattle.well_founded.proofs.LeastLaws.{held, names_from}
 use Rattle.listing_laws.specs.Lister.{named}
-use Rattle.listing_laws.proofs.Enumerated as enumerated
-use Rattle.listing_laws.proofs.Numbers.{symbol_bounds}
+use Rattle.listing_laws.proofs.Containers.{no_list}
+use Rattle.struct_model.proofs.Enumerated as enumerated
 use Rattle.listing_laws.proofs.OrderFacts.{before_by_key, before_within}
 
 -- ---- what a rule makes of structures keeps their order
@@ -80,31 +78,19 @@ module _ (g : Grammar) where
   no_rule_0 : (name : List ℕ) (has : Expression → Bool) → names g name 0 has ≡ true → ⊥
   no_rule_0 name has h =
       let found = held (nat_eq 0) (symbol g.rules name) (and_parts _ _ h).0 in
-      let within = symbol_bounds g.rules name found.0 found.1 in
+      let within = symbol-within g.rules name found.0 found.1 in
       omega (arith, within.0, eqb-true 0 found.0 found.2)
-
-  many_epsilon : (container : Kind) (e : Expression) (card : Card) (x : ℕ) → is_of g (expr.Many container e card) (Eps x) ≡ false
-  many_epsilon kind.Sequence e card x = refl
-  many_epsilon kind.Set e card x = refl
-  many_epsilon kind.PowerSet e card x = refl
-  many_epsilon kind.Cycle e card x = refl
-
-  many_atom : (container : Kind) (e : Expression) (card : Card) (x l : ℕ) → is_of g (expr.Many container e card) (Atom x l) ≡ false
-  many_atom kind.Sequence e card x l = refl
-  many_atom kind.Set e card x l = refl
-  many_atom kind.PowerSet e card x l = refl
-  many_atom kind.Cycle e card x l = refl
 
   pub epsilon_right : (right : Expression) → is_of g right (Eps 0) ≡ true → right ≡ expr.Epsilon
   epsilon_right expr.Epsilon h = refl
   epsilon_right (expr.Name name) h = absurd (no_rule_0 name is_epsilon h)
-  epsilon_right (expr.Many container e card) h = absurd (true≢false (sym h ∙ many_epsilon container e card 0))
+  epsilon_right (expr.Many container e card) h = absurd (true≢false (sym h ∙ no_list g container e card (Eps 0) refl))
   epsilon_right right h = absurd (true≢false (sym h))
 
   pub atom_right : (right : Expression) (l : ℕ) → is_of g right (Atom 0 l) ≡ true → (right ≡ expr.Atom) × (is_label g.universe l ≡ true)
   atom_right expr.Atom l h = (refl, h)
   atom_right (expr.Name name) l h = absurd (no_rule_0 name is_atom (and_parts _ _ h).0)
-  atom_right (expr.Many container e card) l h = absurd (true≢false (sym h ∙ many_atom container e card 0 l))
+  atom_right (expr.Many container e card) l h = absurd (true≢false (sym h ∙ no_list g container e card (Atom 0 l) refl))
   atom_right right l h = absurd (true≢false (sym h))
 
   is_right_epsilon : (right : Expression) → is_epsilon right ≡ true → right ≡ expr.Epsilon
@@ -146,8 +132,8 @@ module _ (g : Grammar) where
 
   module _ (name : List ℕ) (n : ℕ) (right : Expression) (numbered : symbol g.rules name ≡ Some n) (sided : right_side g.rules n ≡ Some right) where
     -- the name has the rule's number, and its right side
-    pub names_is : (has : Expression → Bool) → has right ≡ true → names g name n has ≡ true
-    names_is has h = and_from _ _ (ap (λ o. option_map_or (nat_eq n) o false) numbered ∙ eq-eqb n n refl) (ap (λ o. option_map_or has o false) sided ∙ h)
+    names_is : (has : Expression → Bool) → has right ≡ true → names g name n has ≡ true
+    names_is has h = names_from g name n right has numbered sided h
 
     from_names : (m : ℕ) (has : Expression → Bool) → names g name m has ≡ true → (m ≡ n) × (has right ≡ true)
     from_names m has h =

@@ -1,7 +1,26 @@
--- The number of atoms of structures together.
-use Rattle.std.proofs.Common.{ℕ, List, length}
-use Rattle.struct_model.specs.Structure.{Structure, labels_of_parts, parts_of}
+-- Numbers of labels and of atoms.
+use Rattle.std.proofs.Common.{◌≡◌, ℕ, suc, List, [], ◌∷◌, length, refl, sym, ap, ◌∙◌, inl, inr}
+use Rattle.std.proofs.lemmas.Bool.{cases_lt}
+use Rattle.struct_model.specs.Structure.{Structure, inserted, ascending, labels, labels_of_parts, parts_of, size, key}
+use Rattle.struct_model.proofs.AscendingLabels.{inserted_first, inserted_later}
 
 -- the number of atoms of all the components
 abbrev pub size_of_all : List Structure → ℕ
 size_of_all ss = length (labels_of_parts (parts_of ss))
+
+-- ---- in ascending order
+
+length-inserted : (x : ℕ) (ms : List ℕ) → length (inserted x ms) ≡ suc (length ms)
+length-inserted x [] = refl
+length-inserted x (m ∷ ms) = elim (cases_lt m x) [
+  | inl above ↦ ap length (inserted_later x m ms above) ∙ ap suc (length-inserted x ms)
+  | inr below ↦ ap length (inserted_first x m ms below)
+]
+
+pub length-ascending : (xs : List ℕ) → length (ascending xs) ≡ length xs
+length-ascending [] = refl
+length-ascending (x ∷ xs) = length-inserted x (ascending xs) ∙ ap suc (length-ascending xs)
+
+-- a structure has as many atoms as its key has labels
+pub size_is : (u : List ℕ) (s : Structure) → key s ≡ u → size s ≡ length u
+size_is u s same = sym (length-ascending (labels s)) ∙ ap length same

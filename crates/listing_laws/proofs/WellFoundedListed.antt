@@ -1,35 +1,25 @@
--- Where a grammar without containers is well founded, each name, each expression of the rules and the last components of
--- each Prod have a listing, and it is computed.
-use Rattle.std.proofs.Common.{◌≡◌, ℕ, suc, ◌+◌, ◌*◌, ◌<◌, ◌≤◌, true, List, [], ◌∷◌, ◌++◌, map, length, refl, sym, ap, ◌∙◌, subst, inl, inr, arith, Some}
-use Rattle.std.proofs.lemmas.Bool.{cases_lt}
+-- Where a grammar is well founded, each name, each expression of the rules, the last components of each Prod and each
+-- container with another bound have a listing, and it is computed.
+use Rattle.std.proofs.Common.{◌≡◌, ℕ, suc, ◌+◌, ◌*◌, ◌<◌, ◌≤◌, List, [], ◌∷◌, ◌++◌, map, length, sym, ap, subst, inl, inr, arith, Some}
+use Rattle.spec_syntax.specs.declared.expr.Card.{Card}
+use Rattle.spec_syntax.specs.declared.expr.Kind.{Kind}
 use Rattle.spec_syntax.specs.Expression as expr
 use Rattle.spec_syntax.specs.Expression.{Expression, expressions_of}
 use Rattle.spec_syntax.specs.Rules.{all_nodes}
 use Rattle.spec_syntax.specs.Grammar.{Grammar}
-use Rattle.struct_model.specs.Structure.{Structure, inserted, ascending, labels, size, key}
+use Rattle.struct_model.specs.Structure.{Structure, labels, size, key}
 use Rattle.struct_model.specs.Listing.{IsIn, IsOne, Lists}
 use Rattle.struct_model.specs.Bounded.{bounds, bounded, greatest, argument_count, most_arguments, listing, up_to_height}
 use Rattle.struct_model.proofs.ListingLaws.{one_listing}
-use Rattle.well_founded.specs.Names.{are_plain}
+use Rattle.well_founded.specs.WellFounded.{HoldsNull, OfNone}
 use Rattle.well_founded.specs.Nodes.{node_at}
 use Rattle.well_founded.specs.Rank.{AreRanks}
 use Rattle.well_founded.proofs.NodesLaws.{in_nodes, node_of}
 use Rattle.listing_laws.specs.Laws.{IsListing}
-use Rattle.listing_laws.proofs.Labels.{Each, from_ascending, inserted_first, inserted_later}
+use Rattle.struct_model.proofs.AscendingLabels.{Each, from_ascending}
 use Rattle.listing_laws.proofs.FilterLaws.{listing_within_is}
-use Rattle.listing_laws.proofs.Supplies.{at_most_greatest}
-use Rattle.listing_laws.proofs.Ranked.{rank_of, one_less, within, name_within, suffix_within}
-
-length-inserted : (x : ℕ) (ms : List ℕ) → length (inserted x ms) ≡ suc (length ms)
-length-inserted x [] = refl
-length-inserted x (m ∷ ms) = elim (cases_lt m x) [
-  | inl above ↦ ap length (inserted_later x m ms above) ∙ ap suc (length-inserted x ms)
-  | inr below ↦ ap length (inserted_first x m ms below)
-]
-
-length-ascending : (xs : List ℕ) → length (ascending xs) ≡ length xs
-length-ascending [] = refl
-length-ascending (x ∷ xs) = length-inserted x (ascending xs) ∙ ap suc (length-ascending xs)
+use Rattle.listing_laws.proofs.Sizes.{size_is}
+use Rattle.listing_laws.proofs.Ranked.{rank_of, one_less, within, name_within, suffix_within, bound_within}
 
 room : (k total : ℕ) → k * total + total < (k + 2) * (total + 2)
 room k total = grind arith
@@ -45,6 +35,11 @@ listing_from g e inside = record {
     listing_is : (u : List ℕ) → Lists g e u (listing g e u)
     listing_is u = listing_within_is (bounds g u) g e u (inside u)
 
+-- each label is at most the greatest one
+at_most_greatest : (high : ℕ) (u : List ℕ) → greatest u ≤ high → Each (λ l. l ≤ high) u
+at_most_greatest high [] h = tt
+at_most_greatest high (n ∷ ns) h = (omega arith, at_most_greatest high ns (omega arith))
+
 pub label_bound : (g : Grammar) (u : List ℕ) (s : Structure) → key s ≡ u → Each (λ l. l ≤ (bounds g u).label) (labels s)
 label_bound g u s same =
     from_ascending (λ l. l ≤ (bounds g u).label) (labels s) (subst (Each (λ l. l ≤ (bounds g u).label)) (sym same) (at_most_greatest (bounds g u).label u (omega arith)))
@@ -58,23 +53,23 @@ few_arguments (first ∷ es) e (inr there) = omega (arith, few_arguments es e th
 narrow : (g : Grammar) (n : ℕ) (e : Expression) → node_at g.rules n ≡ Some e → argument_count e ≤ most_arguments g.rules
 narrow g n e there = few_arguments (all_nodes g.rules) e (in_nodes g.rules n e there)
 
-pub size_is : (u : List ℕ) (s : Structure) → key s ≡ u → size s ≡ length u
-size_is u s same = sym (length-ascending (labels s)) ∙ ap length same
-
-module _ (g : Grammar) (plain : are_plain g.rules ≡ true) (ranks : List ℕ) (ranked : AreRanks g ranks) where
+module _ (g : Grammar) (full : OfNone (HoldsNull g) g.rules) (ranks : List ℕ) (ranked : AreRanks g ranks) where
   abbrev total : ℕ
   total = length (all_nodes g.rules)
 
   height_room : (u : List ℕ) (s : Structure) → key s ≡ u → size s * total + total < (bounds g u).height
   height_room u s same = omega (arith, room (length u) total, ap (λ (k : ℕ). k * total) (size_is u s same))
 
+  label_room : (u : List ℕ) (s : Structure) → key s ≡ u → Each (λ l. l ≤ (bounds g u).label) (labels s) × (length (labels s) ≤ (bounds g u).width)
+  label_room u s same = (label_bound g u s same, omega (arith, size_is u s same))
+
   pub node_lists : (e : Expression) → IsIn e (all_nodes g.rules) → IsListing g e
   node_lists e there =
       let node = node_of g.rules e there in
-      let has = rank_of g plain ranks ranked node.0 e node.1 in
+      let has = rank_of g full ranks ranked node.0 e node.1 in
       listing_from g e (λ u s p.
-      within g plain ranks ranked (bounds g u) (most_arguments g.rules) (omega arith) (omega arith) (omega arith) (narrow g)
-      s e has.0 (bounds g u).height (record { number = node.0; there = node.1; has_rank = has.1 }) p.0 (label_bound g u s p.1)
+      within g full ranks ranked (bounds g u) (most_arguments g.rules) (omega arith) (omega arith) (omega arith) (narrow g)
+      s e has.0 (bounds g u).height (record { number = node.0; there = node.1; has_rank = has.1 }) p.0 (label_room u s p.1)
       (omega (arith, has.2, height_room u s p.1)))
 
   higher : (u : List ℕ) (s : Structure) → key s ≡ u → ((h : ℕ) → size s * total + total ≤ h → IsIn s (up_to_height (bounds g u) (suc h))) → IsIn s (bounded (bounds g u))
@@ -85,13 +80,21 @@ module _ (g : Grammar) (plain : are_plain g.rules ≡ true) (ranks : List ℕ) (
   pub name_lists : (name : List ℕ) → IsListing g (expr.Name name)
   name_lists name = listing_from g (expr.Name name) (λ u s p.
       higher u s p.1 (λ h high.
-      name_within g plain ranks ranked (bounds g u) (most_arguments g.rules) (omega arith) (omega arith) (omega arith) (narrow g)
-      s name h p.0 (label_bound g u s p.1) high))
+      name_within g full ranks ranked (bounds g u) (most_arguments g.rules) (omega arith) (omega arith) (omega arith) (narrow g)
+      s name h p.0 (label_room u s p.1) high))
 
   pub suffix_lists : (earlier later : List Expression) → IsIn (expr.Prod (expressions_of (earlier ++ later))) (all_nodes g.rules) → IsListing g (expr.Prod (expressions_of later))
   suffix_lists earlier later there =
       let node = node_of g.rules (expr.Prod (expressions_of (earlier ++ later))) there in
       listing_from g (expr.Prod (expressions_of later)) (λ u s p.
       higher u s p.1 (λ h high.
-      suffix_within g plain ranks ranked (bounds g u) (most_arguments g.rules) (omega arith) (omega arith) (omega arith) (narrow g)
-      s earlier later node.0 h node.1 p.0 (label_bound g u s p.1) high))
+      suffix_within g full ranks ranked (bounds g u) (most_arguments g.rules) (omega arith) (omega arith) (omega arith) (narrow g)
+      s earlier later node.0 h node.1 p.0 (label_room u s p.1) high))
+
+  pub bound_lists : (kind : Kind) (e : Expression) (card other : Card) → IsIn (expr.Many kind e card) (all_nodes g.rules) → IsListing g (expr.Many kind e other)
+  bound_lists kind e card other there =
+      let node = node_of g.rules (expr.Many kind e card) there in
+      listing_from g (expr.Many kind e other) (λ u s p.
+      higher u s p.1 (λ h high.
+      bound_within g full ranks ranked (bounds g u) (most_arguments g.rules) (omega arith) (omega arith) (omega arith) (narrow g)
+      s kind e card other node.0 h node.1 p.0 (label_room u s p.1) high))

@@ -1,42 +1,30 @@
 -- The laws of listings.
-use Rattle.std.specs.Prelude.{◌≡◌, ◌≤◌, ◌<◌, ℕ, ◌+◌, ◌-◌, List, [], ◌∷◌, ◌++◌, map, replicate, length, IsTrue, Option, Some, None, slice_get}
-use Rattle.std.specs.declared.cmp.Ordering.TheVariants.{Less}
-use Rattle.std.specs.List.{sum}
-use Rattle.std.specs.Ordering.{nat_cmp}
-use Rattle.std.specs.Cmp.Lexicographic.{slice_cmp}
-use Rattle.spec_syntax.specs.declared.statement.Universe.{Universe}
-use Rattle.spec_syntax.specs.Expression.{Expression, Expressions, Epsilon, Atom, Name, Union, Prod, no_expressions, more_expressions, expressions_of, expression_list}
-use Rattle.spec_syntax.specs.Rules.{symbol, right_side, all_nodes, is_spec}
+use Rattle.std.specs.Prelude.{◌≡◌, ◌≤◌, ◌<◌, ℕ, ◌-◌, ◌*◌, true, false, List, [], ◌∷◌, ◌++◌, map, replicate, length, IsTrue, Option, Some, None, slice_get, if◌then◌else◌}
+use Rattle.std.specs.List.{list_all, sum}
+use Rattle.spec_syntax.specs.declared.expr.Card.{Card}
+use Rattle.spec_syntax.specs.declared.expr.Kind.{Kind}
+use Rattle.spec_syntax.specs.declared.expr.Kind.TheVariants as kind
+use Rattle.spec_syntax.specs.Card.{admits}
+use Rattle.spec_syntax.specs.Expression.{Expression, Expressions, Epsilon, Atom, Name, Union, Prod, Many, preorder, is_sequence_at_most, no_expressions, more_expressions, expressions_of, expression_list}
+use Rattle.spec_syntax.specs.Rules.{symbol, right_side, all_nodes, is_spec, are_sequences}
 use Rattle.spec_syntax.specs.Grammar.{Grammar}
-use Rattle.struct_model.specs.Structure.{Structure, ascending}
-use Rattle.struct_model.specs.Membership.{is_supply}
-use Rattle.struct_model.specs.Listing.{IsIn, Enumerated, Lists}
+use Rattle.struct_model.specs.Structure.{Structure, size}
+use Rattle.struct_model.specs.Membership.{is_of, supply, is_supply}
+use Rattle.struct_model.specs.Listing.{IsIn, Lists}
 use Rattle.struct_model.specs.Bounded.{listing}
 use Rattle.well_founded.specs.declared.refused.Refused.TheVariants.{Endless}
-use Rattle.well_founded.specs.Sizes.{no_least}
-use Rattle.well_founded.specs.Names.{used_names, undefined_name, is_plain, are_plain}
-use Rattle.well_founded.specs.WellFounded.{HoldsCycle, HoldsNull, OfNone, IsEachProductive, IsWellFounded, IsCulprit}
+use Rattle.well_founded.specs.Sizes.{no_least, IsLeast}
+use Rattle.well_founded.specs.Names.{used_names, undefined_name}
+use Rattle.well_founded.specs.WellFounded.{HasNullElement, HoldsCycle, HoldsNull, OfNone, IsEachProductive, IsWellFounded, IsCulprit}
 use Rattle.well_founded.specs.Rank.{CanFill}
 use Rattle.well_founded.specs.SameSize.{is_told_inside}
-use Rattle.listing_laws.specs.Splits.{Split, splits}
-use Rattle.listing_laws.specs.Lister.{Names, list_with, alternatives, by_splits, product, list_no_components, list_epsilon, list_atom, named}
+use Rattle.splits.specs.Splits.{Split, splits}
+use Rattle.splits.specs.Parts.{parts}
+use Rattle.listing_laws.specs.Lister.{Names, list_with, alternatives, by_splits, by_parts, product, sequence, after_one, admits_some, list_empty, list_no_components, list_epsilon, list_atom, named}
 use Rattle.listing_laws.specs.BySize.{by_sizes}
-use Rattle.listing_laws.specs.Recursion.{components_on, components_of, listing_of_size, by_sizes_from, AreLeast}
+use Rattle.listing_laws.specs.Recursion.{components_on, components_of, repeated_on, AreLeast}
+use Rattle.listing_laws.specs.Relabelled.{relabelled}
 use Rattle.listing_laws.specs.Endless.{HasEndlesslyMany}
-
--- the two lists are supplies, and together they are the supply
-pub record IsSplit (universe : Universe) (u : List ℕ) (split : Split) : Type 0 where
-  pub part : IsTrue (is_supply universe split.part)
-  pub rest : IsTrue (is_supply universe split.rest)
-  pub whole : ascending (split.part ++ split.rest) ≡ u
-
--- the parts label by label, a prefix first
-abbrev pub PartBefore : Split → Split → Type 0
-PartBefore a b = slice_cmp nat_cmp a.part b.part ≡ Less
-
--- Each split of a supply is there once, in the order of the parts.
-abbrev pub SplitsAreListed : Type 0
-SplitsAreListed = (universe : Universe) (u : List ℕ) → IsTrue (is_supply universe u) → Enumerated PartBefore (IsSplit universe u) (splits u)
 
 -- these are listings of the expressions on the supply, one of each
 abbrev pub ListsEach : Grammar → Expressions → List ℕ → List (List Structure) → Type 0
@@ -74,6 +62,38 @@ pub record ProdIsListed : Type 0 where
   pub sizes : (first : List ℕ → List Structure) (others : List ℕ → List (List Structure)) (n : ℕ)
       → by_splits first others (replicate n 0) ≡ by_sizes (λ size. first (replicate size 0)) (λ size. others (replicate size 0)) n
 
+-- no structure of the expression has size 0
+abbrev pub IsNeverEmpty : Grammar → Expression → Type 0
+IsNeverEmpty g e = (s : Structure) → IsTrue (is_of g e s) → size s ≡ 0 → ⊥
+
+-- on each split of the supply with a label or more in the part, first lists the expression on the part and the Sequences of
+-- others list those with the other components on the rest
+abbrev pub ListsParts : Grammar → Expression → Card → List ℕ → (List ℕ → List Structure) → (List ℕ → List (List Structure)) → Type 0
+ListsParts g e card u first others =
+    (split : Split) → IsIn split (parts 1 (length u) u)
+    → Lists g e split.part (first split.part) × Lists g (Many kind.Sequence e (after_one card)) split.rest (map sequence (others split.rest))
+
+-- The listing of a Sequence, over a class without a structure of size 0: on no label it is the empty one, where the bound admits
+-- that. On a label or more, where the bound admits a component, it is, part by part of the supply, by its first component and
+-- then by the listing of the others.
+pub record SequenceIsListed : Type 0 where
+  pub empty : (g : Grammar) (e : Expression) (card : Card) → IsNeverEmpty g e → Lists g (Many kind.Sequence e card) [] (map sequence (list_empty card))
+  pub none : (g : Grammar) (e : Expression) (card : Card) (u : List ℕ) → 0 < length u → admits_some card ≡ false → Lists g (Many kind.Sequence e card) u []
+  pub lists : (g : Grammar) (e : Expression) (card : Card) (u : List ℕ) (first : List ℕ → List Structure) (others : List ℕ → List (List Structure))
+      → IsNeverEmpty g e → IsTrue (is_supply g.universe u) → 0 < length u → admits_some card ≡ true → ListsParts g e card u first others
+      → Lists g (Many kind.Sequence e card) u (map sequence (by_parts 1 (length u) first others u))
+  pub only : (g : Grammar) (e : Expression) (card : Card) (u : List ℕ) (first : List ℕ → List Structure) (others : List ℕ → List (List Structure)) (ss : List Structure)
+      → IsNeverEmpty g e → IsTrue (is_supply g.universe u) → 0 < length u → admits_some card ≡ true → ListsParts g e card u first others
+      → Lists g (Many kind.Sequence e card) u ss → ss ≡ map sequence (by_parts 1 (length u) first others u)
+
+-- What an expression lists on a supply is what it lists on the first labels of the universe, with the labels of the supply in
+-- their places. So it lists as many structures on each supply of so many labels.
+pub record SuppliesAreAlike : Type 0 where
+  pub lists : (g : Grammar) (e : Expression) (u : List ℕ) (ss : List Structure) → IsTrue (is_supply g.universe u)
+      → Lists g e (supply g.universe (length u)) ss → Lists g e u (map (relabelled u) ss)
+  pub alike : (g : Grammar) (e : Expression) (u v : List ℕ) (ss ts : List Structure) → IsTrue (is_supply g.universe u) → IsTrue (is_supply g.universe v)
+      → length u ≡ length v → Lists g e u ss → Lists g e v ts → length ss ≡ length ts
+
 -- The words are listed on supplies of no label and of one, and the name of a rule as its right side is, told by the number.
 pub record WordsAreListed : Type 0 where
   pub epsilon : (g : Grammar) (u : List ℕ) → Lists g Epsilon u (list_epsilon u)
@@ -81,11 +101,13 @@ pub record WordsAreListed : Type 0 where
   pub name : (g : Grammar) (name : List ℕ) (n : ℕ) (right : Expression) (u : List ℕ) (ss : List Structure)
       → symbol g.rules name ≡ Some n → right_side g.rules n ≡ Some right → Lists g right u ss → Lists g (Name name) u (map (named n) ss)
 
--- What an expression lists is its listing, where what each of its names lists on each supply is the name's.
+-- What an expression lists is its listing, where it has no container but Sequences, none over a class with a structure of size 0,
+-- and what each of its names lists on each supply is the name's.
 abbrev pub ExpressionIsListed : Type 0
 ExpressionIsListed =
     (g : Grammar) (names : Names) (e : Expression) (u : List ℕ)
-    → IsTrue (is_plain e)
+    → IsTrue (list_all is_sequence_at_most (preorder e))
+    → (HasNullElement g e → ⊥)
     → ((name : List ℕ) (labels : List ℕ) → IsIn name (used_names e) → IsTrue (is_supply g.universe labels) → Lists g (Name name) labels (names name labels))
     → IsTrue (is_supply g.universe u)
     → Lists g e u (list_with names e u)
@@ -95,53 +117,75 @@ pub record IsListing (g : Grammar) (e : Expression) : Type 0 where
   pub lists : (u : List ℕ) → IsTrue (is_supply g.universe u) → Lists g e u (listing g e u)
   pub only : (u : List ℕ) (ss : List Structure) → IsTrue (is_supply g.universe u) → Lists g e u ss → ss ≡ listing g e u
 
--- Where a grammar without containers is well founded there is exactly one listing of each name, of each expression in the
--- rules and of the last components of each Prod, and the structures that are picked within the bounds are it.
+-- Where a grammar is well founded there is exactly one listing of each name, of each expression in the rules and of the last
+-- components of each Prod, and the structures that are picked within the bounds are it. The same holds of a container of the
+-- rules with another bound.
 pub record WellFoundedIsListed : Type 0 where
-  pub names : (g : Grammar) (name : List ℕ) → IsTrue (is_spec g.rules) → IsTrue (are_plain g.rules) → IsWellFounded g → IsListing g (Name name)
-  pub nodes : (g : Grammar) (e : Expression) → IsTrue (is_spec g.rules) → IsTrue (are_plain g.rules) → IsWellFounded g → IsIn e (all_nodes g.rules) → IsListing g e
-  pub suffixes : (g : Grammar) (earlier later : List Expression) → IsTrue (is_spec g.rules) → IsTrue (are_plain g.rules) → IsWellFounded g
+  pub names : (g : Grammar) (name : List ℕ) → IsTrue (is_spec g.rules) → IsWellFounded g → IsListing g (Name name)
+  pub nodes : (g : Grammar) (e : Expression) → IsTrue (is_spec g.rules) → IsWellFounded g → IsIn e (all_nodes g.rules) → IsListing g e
+  pub suffixes : (g : Grammar) (earlier later : List Expression) → IsTrue (is_spec g.rules) → IsWellFounded g
       → IsIn (Prod (expressions_of (earlier ++ later))) (all_nodes g.rules) → IsListing g (Prod (expressions_of later))
+  pub bounds : (g : Grammar) (kind : Kind) (e : Expression) (card other : Card) → IsTrue (is_spec g.rules) → IsWellFounded g
+      → IsIn (Many kind e card) (all_nodes g.rules) → IsListing g (Many kind e other)
 
--- In a well founded grammar without containers the listings are made of the listings inside. Without labels they go by size,
--- and of a Prod's component the sizes from its least one up to what the others' least sizes leave are enough.
+-- In a well founded grammar the listings are made of the listings inside. Of a Prod's first component those parts are enough that
+-- the least sizes leave. A Sequence goes by the Sequences of the components after the first one, and there is none where the least
+-- number of components needs more labels than there are.
 pub record ListingsRecur : Type 0 where
   pub epsilon : (g : Grammar) (u : List ℕ) → IsTrue (is_supply g.universe u) → listing g Epsilon u ≡ list_epsilon u
   pub atom : (g : Grammar) (u : List ℕ) → IsTrue (is_supply g.universe u) → listing g Atom u ≡ list_atom u
   pub no_rule : (g : Grammar) (name : List ℕ) (u : List ℕ) → IsTrue (is_supply g.universe u) → symbol g.rules name ≡ None → listing g (Name name) u ≡ []
-  pub name : (g : Grammar) (name : List ℕ) (n : ℕ) (right : Expression) (u : List ℕ) → IsTrue (is_spec g.rules) → IsTrue (are_plain g.rules) → IsWellFounded g
+  pub name : (g : Grammar) (name : List ℕ) (n : ℕ) (right : Expression) (u : List ℕ) → IsTrue (is_spec g.rules) → IsWellFounded g
       → symbol g.rules name ≡ Some n → right_side g.rules n ≡ Some right → IsTrue (is_supply g.universe u) → listing g (Name name) u ≡ map (named n) (listing g right u)
-  pub union : (g : Grammar) (es : Expressions) (u : List ℕ) → IsTrue (is_spec g.rules) → IsTrue (are_plain g.rules) → IsWellFounded g
+  pub union : (g : Grammar) (es : Expressions) (u : List ℕ) → IsTrue (is_spec g.rules) → IsWellFounded g
       → IsIn (Union es) (all_nodes g.rules) → IsTrue (is_supply g.universe u) → listing g (Union es) u ≡ alternatives 1 (map (λ e. listing g e u) (expression_list es))
-  pub prod : (g : Grammar) (earlier later : List Expression) (u : List ℕ) → IsTrue (is_spec g.rules) → IsTrue (are_plain g.rules) → IsWellFounded g
+  pub prod : (g : Grammar) (earlier later : List Expression) (u : List ℕ) → IsTrue (is_spec g.rules) → IsWellFounded g
       → IsIn (Prod (expressions_of (earlier ++ later))) (all_nodes g.rules) → IsTrue (is_supply g.universe u)
       → listing g (Prod (expressions_of later)) u ≡ map product (components_on g (expressions_of later) u)
   pub by_size : (g : Grammar) (es : Expressions) (n : ℕ) → components_on g es (replicate n 0) ≡ components_of g es n
-  pub between : (g : Grammar) (earlier : List Expression) (e : Expression) (later : List Expression) (least : ℕ) (others : List ℕ) (n : ℕ) → IsTrue (are_plain g.rules)
+  pub between : (g : Grammar) (earlier : List Expression) (e : Expression) (later : List Expression) (least : ℕ) (others u : List ℕ)
+      → IsTrue (is_spec g.rules) → IsWellFounded g → IsTrue (is_supply g.universe u)
       → IsIn (Prod (expressions_of (earlier ++ e ∷ later))) (all_nodes g.rules) → AreLeast g (e ∷ later) (least ∷ others)
-      → components_of g (expressions_of (e ∷ later)) n
-      ≡ by_sizes_from least (n + 1 - (least + sum others)) (listing_of_size g e) (components_of g (expressions_of later)) n
+      → components_on g (expressions_of (e ∷ later)) u ≡ by_parts least (length u - sum others) (listing g e) (components_on g (expressions_of later)) u
+  pub sequence : (g : Grammar) (e : Expression) (card other : Card) (u : List ℕ) → IsTrue (is_spec g.rules) → IsWellFounded g
+      → IsIn (Many kind.Sequence e card) (all_nodes g.rules) → IsTrue (is_supply g.universe u)
+      → listing g (Many kind.Sequence e other) u ≡ map sequence (repeated_on g e other u)
+  pub empty : (g : Grammar) (e : Expression) (card : Card) → repeated_on g e card [] ≡ list_empty card
+  pub repeated : (g : Grammar) (e : Expression) (card : Card) (u : List ℕ) → 0 < length u
+      → repeated_on g e card u ≡ (if admits_some card then by_parts 1 (length u) (listing g e) (repeated_on g e (after_one card)) u else [])
+  pub few : (g : Grammar) (e : Expression) (card other : Card) (least : ℕ) (u : List ℕ) → IsTrue (is_spec g.rules) → IsWellFounded g → IsTrue (is_supply g.universe u)
+      → IsIn (Many kind.Sequence e card) (all_nodes g.rules) → IsLeast g e least → length u < other.low * least → repeated_on g e other u ≡ []
+  pub alike : (g : Grammar) (e : Expression) (u : List ℕ) → IsTrue (is_supply g.universe u) → IsListing g e
+      → listing g e u ≡ map (relabelled u) (listing g e (supply g.universe (length u)))
+  pub alike_components : (g : Grammar) (earlier later : List Expression) (u : List ℕ) → IsTrue (is_spec g.rules) → IsWellFounded g
+      → IsIn (Prod (expressions_of (earlier ++ later))) (all_nodes g.rules) → IsTrue (is_supply g.universe u)
+      → components_on g (expressions_of later) u ≡ map (map (relabelled u)) (components_on g (expressions_of later) (supply g.universe (length u)))
+  pub alike_repeated : (g : Grammar) (e : Expression) (card other : Card) (u : List ℕ) → IsTrue (is_spec g.rules) → IsWellFounded g
+      → IsIn (Many kind.Sequence e card) (all_nodes g.rules) → IsTrue (is_supply g.universe u)
+      → repeated_on g e other u ≡ map (map (relabelled u)) (repeated_on g e other (supply g.universe (length u)))
 
 -- Where the other refusals don't hold, a rule is refused as endless exactly where some class has endlessly many members of one
 -- size. The rule itself has endlessly many of the size that is told, unless that is too great.
 pub record EndlessByMembers : Type 0 where
-  pub many : (g : Grammar) (start : Option (List ℕ)) (name : List ℕ) (n : ℕ) → IsTrue (is_spec g.rules) → IsTrue (are_plain g.rules)
+  pub many : (g : Grammar) (start : Option (List ℕ)) (name : List ℕ) (n : ℕ) → IsTrue (is_spec g.rules) → IsTrue (are_sequences g.rules)
       → IsCulprit g start (Endless name n) → (x : List ℕ) × (m : ℕ) × HasEndlesslyMany g x m
-  pub told : (g : Grammar) (start : Option (List ℕ)) (name : List ℕ) (n : ℕ) → IsTrue (is_spec g.rules) → IsTrue (are_plain g.rules)
+  pub told : (g : Grammar) (start : Option (List ℕ)) (name : List ℕ) (n : ℕ) → IsTrue (is_spec g.rules) → IsTrue (are_sequences g.rules)
       → IsCulprit g start (Endless name n) → n < no_least → HasEndlesslyMany g name n
-  pub endless : (g : Grammar) (start : Option (List ℕ)) (x : List ℕ) (m : ℕ) → IsTrue (is_spec g.rules) → IsTrue (are_plain g.rules)
+  pub endless : (g : Grammar) (start : Option (List ℕ)) (x : List ℕ) (m : ℕ) → IsTrue (is_spec g.rules) → IsTrue (are_sequences g.rules)
       → undefined_name g.rules start ≡ None → OfNone (HoldsCycle g) g.rules → IsEachProductive g → OfNone (HoldsNull g) g.rules
       → HasEndlesslyMany g x m → (name : List ℕ) × (n : ℕ) × IsCulprit g start (Endless name n)
 
--- In a well founded grammar without containers these can stand inside at the same size, so their ranks are lower: the right
--- side of a name unless it is one of the two words, each argument of a Union, and a component of a Prod where the least sizes
--- of all others are 0.
+-- In a well founded grammar without containers but Sequences these can stand inside at the same size, so their ranks are lower: the
+-- right side of a name unless it is one of the two words, each argument of a Union, a component of a Prod where the least sizes of
+-- all others are 0, and the element of a Sequence that may have one component.
 pub record SameSizeIsFilled : Type 0 where
-  pub name : (g : Grammar) (name : List ℕ) (n : ℕ) (right : Expression) → IsTrue (is_spec g.rules) → IsTrue (are_plain g.rules) → IsWellFounded g
+  pub name : (g : Grammar) (name : List ℕ) (n : ℕ) (right : Expression) → IsTrue (is_spec g.rules) → IsTrue (are_sequences g.rules) → IsWellFounded g
       → symbol g.rules name ≡ Some n → right_side g.rules n ≡ Some right → IsTrue (is_told_inside right) → CanFill g (Name name) 0 right
-  pub union : (g : Grammar) (es : Expressions) (place : ℕ) (e : Expression) → IsTrue (is_spec g.rules) → IsTrue (are_plain g.rules) → IsWellFounded g
+  pub union : (g : Grammar) (es : Expressions) (place : ℕ) (e : Expression) → IsTrue (is_spec g.rules) → IsTrue (are_sequences g.rules) → IsWellFounded g
       → IsIn (Union es) (all_nodes g.rules) → slice_get (expression_list es) place ≡ Some e → CanFill g (Union es) place e
   pub prod : (g : Grammar) (earlier : List Expression) (e : Expression) (later : List Expression) (before after : List ℕ)
-      → IsTrue (is_spec g.rules) → IsTrue (are_plain g.rules) → IsWellFounded g → IsIn (Prod (expressions_of (earlier ++ e ∷ later))) (all_nodes g.rules)
+      → IsTrue (is_spec g.rules) → IsTrue (are_sequences g.rules) → IsWellFounded g → IsIn (Prod (expressions_of (earlier ++ e ∷ later))) (all_nodes g.rules)
       → AreLeast g earlier before → AreLeast g later after → sum before ≡ 0 → sum after ≡ 0
       → CanFill g (Prod (expressions_of (earlier ++ e ∷ later))) (length earlier) e
+  pub sequence : (g : Grammar) (e : Expression) (card : Card) → IsTrue (is_spec g.rules) → IsTrue (are_sequences g.rules) → IsWellFounded g
+      → IsIn (Many kind.Sequence e card) (all_nodes g.rules) → IsTrue (admits card 1) → CanFill g (Many kind.Sequence e card) 0 e

@@ -1,6 +1,6 @@
-pub mod Splits
 pub mod Lister
 pub mod BySize
 pub mod Laws
 pub mod Recursion
 pub mod Endless
+pub mod Relabelled

@@ -1,11 +1,16 @@
 -- What an expression lists on a supply of labels, by recursion on the expression, given what each name lists.
-use Rattle.std.specs.Prelude.{ℕ, zero, ◌+◌, List, [], ◌∷◌, ◌++◌, map}
+use Rattle.std.specs.Prelude.{ℕ, zero, suc, ◌+◌, ◌-◌, Bool, List, [], ◌∷◌, ◌++◌, length, map, if◌then◌else◌}
+use Rattle.std.specs.Option.{option_map}
 use Rattle.std.specs.List.{flat_map}
+use Rattle.spec_syntax.specs.declared.expr.Card.{Card}
+use Rattle.spec_syntax.specs.declared.expr.Kind.TheVariants as kind
+use Rattle.spec_syntax.specs.Card.{is_within, admits}
 use Rattle.spec_syntax.specs.Expression as expr
 use Rattle.spec_syntax.specs.Expression.{Expression, Expressions, no_expressions, more_expressions}
 use Rattle.struct_model.specs.declared.tree.Form5.TheVariants as form
 use Rattle.struct_model.specs.Structure.{Structure, Eps, Atom, Named, Alt, Tup, parts_of}
-use Rattle.listing_laws.specs.Splits.{splits}
+use Rattle.splits.specs.Splits.{splits}
+use Rattle.splits.specs.Parts.{parts}
 
 -- what each name lists on a supply
 abbrev pub Names : Type 0
@@ -14,6 +19,10 @@ Names = List ℕ → List ℕ → List Structure
 -- the product of these components
 abbrev pub product : List Structure → Structure
 product components = Tup form.Prod (parts_of components)
+
+-- the Sequence of these components
+abbrev pub sequence : List Structure → Structure
+sequence components = Tup form.Sequence (parts_of components)
 
 -- the structure of size 0, where there is no label
 abbrev pub list_epsilon : List ℕ → List Structure
@@ -44,15 +53,40 @@ each_before firsts others = flat_map (λ first. map (λ rest. first ∷ rest) ot
 abbrev pub by_splits : (List ℕ → List Structure) → (List ℕ → List (List Structure)) → List ℕ → List (List Structure)
 by_splits first others u = flat_map (λ split. each_before (first split.part) (others split.rest)) (splits u)
 
+-- the same with the first component on from low to high of the labels
+abbrev pub by_parts : ℕ → ℕ → (List ℕ → List Structure) → (List ℕ → List (List Structure)) → List ℕ → List (List Structure)
+by_parts low high first others u = flat_map (λ split. each_before (first split.part) (others split.rest)) (parts low high u)
+
+-- the bound on the components after the first one
+abbrev pub after_one : Card → Card
+after_one card = record { low = card.low - 1; high = option_map (λ high. high - 1) card.high }
+
+-- does the bound admit a component
+abbrev pub admits_some : Card → Bool
+admits_some card = is_within card.high 1
+
+-- no components, where the bound admits that
+abbrev pub list_empty : Card → List (List Structure)
+list_empty card = if admits card 0 then [] ∷ [] else []
+
+-- the lists of components, as many as the bound admits and at most n, each with a label or more: where there is no label
+-- the empty list, and otherwise split by split of the supply, then by the first component, then by the others
+abbrev pub list_repeated : (List ℕ → List Structure) → ℕ → Card → List ℕ → List (List Structure)
+list_repeated first n card [] = list_empty card
+list_repeated first zero card (label ∷ labels) = []
+list_repeated first (suc n) card (label ∷ labels) =
+    if admits_some card then by_parts 1 (length (label ∷ labels)) first (list_repeated first n (after_one card)) (label ∷ labels) else []
+
 abbrev mutual
-  -- what the expression lists on the supply. A container lists nothing here: the laws speak of expressions without any
+  -- what the expression lists on the supply. Of the containers Sequence alone lists anything here
   pub list_with : Names → Expression → List ℕ → List Structure
   list_with names expr.Epsilon u = list_epsilon u
   list_with names expr.Atom u = list_atom u
   list_with names (expr.Name name) u = names name u
   list_with names (expr.Union arguments) u = alternatives 1 (list_each names arguments u)
   list_with names (expr.Prod components) u = map product (list_components names components u)
-  list_with names (expr.Many kind element card) u = []
+  list_with names (expr.Many kind.Sequence element card) u = map sequence (list_repeated (list_with names element) (length u) card u)
+  list_with names (expr.Many other element card) u = []
 
   -- what each of the expressions lists on the supply
   pub list_each : Names → Expressions → List ℕ → List (List Structure)

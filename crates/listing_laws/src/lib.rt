@@ -3,12 +3,7 @@
 //! This crate has no code of the program. Each law is what a function with an empty body ensures.
 #![tactic(auto)]
 
-ghost use Rattle.listing_laws.specs.Laws.{SplitsAreListed, WordsAreListed, UnionIsListed, ProdIsListed, ExpressionIsListed, WellFoundedIsListed, ListingsRecur, SameSizeIsFilled, EndlessByMembers};
-
-/// Each way to split a supply in a part and the rest is there once, in the lexicographic order of the parts.
-pub fn splits_are_listed()
-    ensures { SplitsAreListed }
-{}
+ghost use Rattle.listing_laws.specs.Laws.{WordsAreListed, UnionIsListed, ProdIsListed, SequenceIsListed, SuppliesAreAlike, ExpressionIsListed, WellFoundedIsListed, ListingsRecur, SameSizeIsFilled, EndlessByMembers};
 
 /// The listing of Epsilon and of Atom is the word alone, on a supply of no label and of one, and the listing of a rule's
 /// name is that of its right side, told by the rule's number.
@@ -27,31 +22,47 @@ pub fn prod_is_listed()
     ensures { ProdIsListed }
 {}
 
-/// What an expression lists is its listing, where what each of its names lists on each supply is the name's.
+/// The listing of a Sequence, over a class without a structure of size 0, is the empty one on no label, where the bound
+/// admits it, and on a label or more it is, part by part of the supply, by its first component and then by the listing of
+/// the others, as many as the bound leaves.
+pub fn sequence_is_listed()
+    ensures { SequenceIsListed }
+{}
+
+/// What an expression lists on a supply is what it lists on the first labels of the universe, with the labels of the supply
+/// in their places. So it lists as many structures on each supply of so many labels.
+pub fn supplies_are_alike()
+    ensures { SuppliesAreAlike }
+{}
+
+/// What an expression without containers but Sequences lists is its listing, where what each of its names lists on each
+/// supply is the name's and no Sequence is over a class with a structure of size 0.
 pub fn expression_is_listed()
     ensures { ExpressionIsListed }
 {}
 
-/// Where a grammar is well founded, there is exactly one listing of each name, of each expression in the rules and of the
-/// last components of each Prod in them, and the structures that are picked within the bounds are it.
+/// Where a grammar is well founded, there is exactly one listing of each name, of each expression in the rules, of the last
+/// components of each Prod in them and of each container in them with any bound, and the structures that are picked within
+/// the bounds are it.
 pub fn well_founded_is_listed()
     ensures { WellFoundedIsListed }
 {}
 
-/// The listing of an expression of a well-founded grammar by the listings of the expressions inside it. In the unlabelled
-/// universe these are listings by size, and of a Prod's component those sizes are enough that the least sizes leave.
+/// The listing of an expression of a well-founded grammar by the listings of the expressions inside it. Of a Prod's
+/// component those parts of the supply are enough that the least sizes leave, which in the unlabelled universe are sizes. A
+/// Sequence goes part by part. On each supply the listing is that on the first labels, with the supply's in their places.
 pub fn listings_recur()
     ensures { ListingsRecur }
 {}
 
-/// What the listing of a node of a well-founded grammar needs at the same size can stand inside at that size, and so has a
-/// lower rank.
+/// What the listing of a node of a well-founded grammar without containers but Sequences needs at the same size can stand
+/// inside at that size, and so has a lower rank.
 pub fn same_size_is_filled()
     ensures { SameSizeIsFilled }
 {}
 
-/// Where a grammar has none of the other faults, its check refuses a rule as endless exactly where for some class and size
-/// there are, for each number, so many different members.
+/// Where a grammar has none of the other faults and no container but Sequences, its check refuses a rule as endless exactly
+/// where for some class and size there are, for each number, so many different members.
 pub fn endless_by_members()
     ensures { EndlessByMembers }
 {}
@@ -63,10 +74,11 @@ mod tests {
 
     #[test]
     fn the_laws(_rt: HostRuntime) -> Result<(), Fail> {
-        splits_are_listed();
         words_are_listed();
         union_is_listed();
         prod_is_listed();
+        sequence_is_listed();
+        supplies_are_alike();
         expression_is_listed();
         well_founded_is_listed();
         listings_recur();
