@@ -7,14 +7,13 @@ use Rattle.spec_reader.specs.declared.refusal.ReadRefused.TheVariants as read
 use Rattle.combstruct_cli.specs.declared.run.Status.TheVariants as status
 use Rattle.combstruct_cli.specs.declared.run.Outcome.TheVariants.{Done, Refused}
 use Rattle.combstruct_cli.specs.Outcome.{outcome_of}
-use Rattle.std.proofs.Common.{suc, unwrap_or, option_map, is_some, if◌then◌else◌, ◌≡◌, ◌≢◌, ◌⊎◌, inl, inr, ◌<◌, ◌≤◌, ◌+◌, Bool, true, false, [], ◌∷◌, take, subst, leb, arith, ℕ, List, ◌++◌, length, replicate, codes, Option, Some, None, refl, sym, ap, ◌∙◌}
+use Rattle.std.proofs.Common.{suc, unwrap_or, option_map, is_some, if◌then◌else◌, ◌≡◌, ◌≢◌, ◌⊎◌, inl, inr, ◌<◌, ◌≤◌, ◌+◌, Bool, true, false, [], ◌∷◌, take, subst, leb, arith, ℕ, List, ◌++◌, length, codes, Option, Some, None, refl, sym, ap, ◌∙◌}
 use Rattle.std.specs.Option.{option_or}
 use Rattle.std.specs.Cmp.Lexicographic.{same_text}
-use Rattle.spec_syntax.specs.declared.statement.Universe.{Universe}
-use Rattle.spec_syntax.specs.declared.statement.Universe.TheVariants.{Unlabelled}
 use Rattle.spec_syntax.specs.Expression.{Expression, Name}
 use Rattle.spec_syntax.specs.Rules.{Rules, rule_name, is_same_name, symbol as symbol_of}
 use Rattle.struct_model.specs.Structure.{Structure, parts_of}
+use Rattle.struct_model.specs.Membership.{supply}
 use Rattle.struct_model.specs.Text.{maple_parts}
 use Rattle.struct_model.specs.Bounded.{listing}
 use Rattle.well_founded.specs.Names.{name_without_rule, symbol_without_rule, undefined_name}
@@ -37,12 +36,11 @@ rule_named rules symbol n found =
     ∙ same_text rule.1.0 symbol (sym rule.4)
 
 -- the text of the listing of a checked class is that of the class
-pub text_listed : (checked : Checked) (symbol : List ℕ) (n size : ℕ) → checked.universe ≡ Unlabelled → symbol_of checked.rules symbol ≡ Some n
-    → codes "[" ++ maple_parts checked.rules (parts_of (listing_of_rule checked n size)) ++ codes "]\n" ≡ listing_text checked.rules symbol size
-text_listed checked symbol n size universe found =
+pub text_listed : (checked : Checked) (symbol : List ℕ) (n size : ℕ) → symbol_of checked.rules symbol ≡ Some n
+    → codes "[" ++ maple_parts checked.rules (parts_of (listing_of_rule checked n size)) ++ codes "]\n" ≡ listing_text (grammar checked) symbol size
+text_listed checked symbol n size found =
     ap (λ (ss : List Structure). codes "[" ++ maple_parts checked.rules (parts_of ss) ++ codes "]\n")
-    (ap (λ (name : List ℕ). listing (grammar checked) (Name name) (replicate size 0)) (rule_named checked.rules symbol n found)
-    ∙ ap (λ (u : Universe). listing (record { rules = checked.rules; universe = u }) (Name symbol) (replicate size 0)) universe)
+    (ap (λ (name : List ℕ). listing (grammar checked) (Name name) (supply checked.universe size)) (rule_named checked.rules symbol n found))
 
 -- where no name is undefined, the class symbol has a rule
 pub symbol_defined : (rules : Rules) (symbol : List ℕ) → undefined_name rules (Some symbol) ≡ None → symbol_of rules symbol ≢ None

@@ -7,3 +7,8 @@ pub mod ReadingLemmas
 pub mod RunLemmas
 pub mod TextLemmas
 pub mod Unique
+pub mod RelabelLemmas
+pub mod SplitLemmas
+pub mod KindLemmas
+pub mod ProdLemmas
+pub mod SequenceLemmas

@@ -1,11 +1,12 @@
 -- Each script has one answer.
-use Rattle.std.proofs.Common.{◌≡◌, ◌⊎◌, inl, inr, ℕ, ◌+◌, ◌≤◌, ◌<◌, List, [], ◌∷◌, IsTrue, Option, Some, None, Result, Ok, Err, subst, take, slice_range, refl, sym, ap, ◌∙◌, arith}
+use Rattle.std.proofs.Common.{◌≡◌, ◌⊎◌, inl, inr, ℕ, ◌+◌, ◌≤◌, ◌<◌, List, [], ◌∷◌, Option, Some, None, Result, Ok, Err, subst, take, slice_range, refl, sym, ap, ◌∙◌, arith}
 use Rattle.spec_syntax.specs.declared.statement.Statement.{Statement}
 use Rattle.spec_syntax.specs.declared.statement.Form.{Form}
 use Rattle.spec_syntax.specs.declared.statement.Form.TheVariants as form
 use Rattle.spec_syntax.specs.declared.statement.Job.TheVariants as job
 use Rattle.spec_syntax.specs.declared.statement.ClassRef.TheVariants as class_ref
 use Rattle.spec_syntax.specs.declared.statement.RulesRef.TheVariants as rules_ref
+use Rattle.spec_syntax.specs.Grammar.{Grammar}
 use Rattle.spec_reader.specs.declared.place.Place.{Place}
 use Rattle.spec_reader.specs.Reading.{Answers}
 use Rattle.spec_reader.specs.Laws.{FormKeeps}
@@ -13,25 +14,25 @@ use Rattle.spec_reader.proofs.Keeps.{readings-keep}
 use Rattle.well_founded.specs.declared.refused.Refused.{Refused}
 use Rattle.well_founded.proofs.CheckExists.{says_some, says_one}
 use Rattle.combstruct_cli.specs.declared.refusal.Refusal.TheVariants.{Read}
-use Rattle.combstruct_cli.specs.Unlabelled.{unlabelled}
 use Rattle.spec_reader.specs.declared.refusal.ReadRefused.{ReadRefused}
 use Rattle.spec_reader.specs.Cutting.{first_piece_of}
 use Rattle.spec_reader.proofs.Pieces.{some-answer}
-use Rattle.combstruct_cli.specs.Answer.{Effect, Answer, RunsPiece, RunsFirst, Runs, StatementDoes, PieceDoes, effect_of_listing, nothing, refusing, is_plain_form, effect_after, followed_by, place_in, refusing_long, most_bytes, status_of, usage_answer}
+use Rattle.combstruct_cli.specs.Answer.{Effect, Answer, RunsPiece, RunsFirst, Runs, StatementDoes, PieceDoes, effect_of_listing, nothing, refusing, effect_after, followed_by, place_in, refusing_long, most_bytes, status_of, usage_answer}
 use Rattle.combstruct_cli.specs.Laws.{SomeAnswer, OneAnswer}
 use Rattle.combstruct_cli.proofs.AnswerLemmas.{within_or_over}
-use Rattle.combstruct_cli.proofs.ReadingLemmas.{answers_same, is_plain_form-read}
+use Rattle.combstruct_cli.proofs.ReadingLemmas.{answers_same}
 
 -- a statement that is read does something
-some-statement : (f : Form) (line : ℕ) → IsTrue (is_plain_form f) → FormKeeps f → (whole : Effect) × StatementDoes f line whole
-some-statement (form.List (job.Grammar (class_ref.Written symbol (rules_ref.Written rules) universe) size)) line plain keeps =
-    let said = says_some (unlabelled rules) (Some symbol) keeps plain in
-    (effect_of_listing said.0 rules symbol size line, record { said = said.0; checks = said.1; does = refl })
-some-statement other line plain keeps = (nothing, refl)
+some-statement : (f : Form) (line : ℕ) → FormKeeps f → (whole : Effect) × StatementDoes f line whole
+some-statement (form.List (job.Grammar (class_ref.Written symbol (rules_ref.Written rules) universe) size)) line keeps =
+    let g : Grammar = record { rules = rules; universe = universe } in
+    let said = says_some g (Some symbol) keeps in
+    (effect_of_listing said.0 g symbol size line, record { said = said.0; checks = said.1; does = refl })
+some-statement other line keeps = (nothing, refl)
 
 -- and so does a piece
 some-piece : (place : Place) (piece : List ℕ) (reading : Result Statement ReadRefused) (line : ℕ) → Answers place piece reading → (whole : Effect) × PieceDoes reading line whole
-some-piece place piece (Ok statement) line reads = some-statement statement.form line (is_plain_form-read piece statement reads) (readings-keep piece statement reads)
+some-piece place piece (Ok statement) line reads = some-statement statement.form line (readings-keep piece statement reads)
 some-piece place piece (Err why) line reads = (refusing line (Read why), refl)
 
 runs-piece : (script : List ℕ) (start end : ℕ) → (whole : Effect) × RunsPiece script start end whole
@@ -62,8 +63,9 @@ some-script (word ∷ words) script = (usage_answer, refl)
 -- a statement that is read does nothing else
 pub one-statement : (f : Form) (line : ℕ) (one other : Effect) → FormKeeps f → StatementDoes f line one → StatementDoes f line other → one ≡ other
 one-statement (form.List (job.Grammar (class_ref.Written symbol (rules_ref.Written rules) universe) size)) line one other keeps p q =
-    let same = says_one (unlabelled rules) (Some symbol) p.said q.said keeps p.checks q.checks in
-    p.does ∙ ap (λ (said : Option Refused). effect_of_listing said rules symbol size line) same ∙ sym q.does
+    let g : Grammar = record { rules = rules; universe = universe } in
+    let same = says_one g (Some symbol) p.said q.said keeps p.checks q.checks in
+    p.does ∙ ap (λ (said : Option Refused). effect_of_listing said g symbol size line) same ∙ sym q.does
 one-statement other_form line one other keeps p q = p ∙ sym q
 
 one-reading : (place : Place) (piece : List ℕ) (reading : Result Statement ReadRefused) (line : ℕ) (one other : Effect) → Answers place piece reading

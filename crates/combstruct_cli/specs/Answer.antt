@@ -1,6 +1,5 @@
 -- The answer to words and a script: what is written to the two outputs, and the status.
 use Rattle.std.specs.Prelude.{◌≡◌, ◌⊎◌, ℕ, ◌+◌, ◌<◌, ◌≤◌, Bool, true, false, ◌||◌, nat_lt, List, [], ◌∷◌, ◌++◌, length, take, drop, slice_range, codes, Option, Some, None, Result, Ok, Err, if◌then◌else◌}
-use Rattle.spec_syntax.specs.declared.statement.Universe.TheVariants.{Unlabelled}
 use Rattle.spec_syntax.specs.declared.statement.RulesRef.TheVariants as rules_ref
 use Rattle.spec_syntax.specs.declared.statement.ClassRef.TheVariants as class_ref
 use Rattle.spec_syntax.specs.declared.statement.Job.TheVariants as job
@@ -8,7 +7,7 @@ use Rattle.spec_syntax.specs.declared.statement.Form.{Form}
 use Rattle.spec_syntax.specs.declared.statement.Form.TheVariants as form
 use Rattle.spec_syntax.specs.declared.statement.Statement.{Statement}
 use Rattle.spec_syntax.specs.Expression.{Name}
-use Rattle.spec_syntax.specs.Rules.{Rules}
+use Rattle.spec_syntax.specs.Grammar as syntax
 use Rattle.spec_reader.specs.declared.place.Place.{Place}
 use Rattle.spec_reader.specs.declared.refusal.Which.TheVariants as which
 use Rattle.spec_reader.specs.declared.refusal.ReadRefused.{ReadRefused}
@@ -21,14 +20,12 @@ use Rattle.struct_model.specs.Membership.{supply}
 use Rattle.struct_model.specs.Bounded.{listing}
 use Rattle.struct_model.specs.Text.{maple_parts}
 use Rattle.well_founded.specs.declared.refused.Refused.{Refused}
-use Rattle.well_founded.specs.Names.{are_plain}
 use Rattle.well_founded.specs.WellFounded.{Checks}
 use Rattle.comb_io.specs.Writes.{Write, to_out, to_err}
 use Rattle.combstruct_cli.specs.declared.refusal.Refusal.{Refusal}
 use Rattle.combstruct_cli.specs.declared.refusal.Refusal.TheVariants.{Read, Grammar}
 use Rattle.combstruct_cli.specs.declared.run.Status.{Status}
 use Rattle.combstruct_cli.specs.declared.run.Status.TheVariants as status
-use Rattle.combstruct_cli.specs.Unlabelled.{unlabelled}
 use Rattle.combstruct_cli.specs.Refusals.{refusal_line}
 
 -- what a part of a script does: its writes, and whether it is refused
@@ -50,31 +47,25 @@ abbrev pub followed_by : Effect → Effect → Effect
 followed_by first second = record { writes = first.writes ++ second.writes; is_refused = first.is_refused || second.is_refused }
 
 -- the texts of the structures of a class of a size, in brackets
-abbrev pub listing_text : Rules → List ℕ → ℕ → List ℕ
-listing_text rules symbol size =
-    codes "[" ++ maple_parts rules (parts_of (listing (unlabelled rules) (Name symbol) (supply Unlabelled size))) ++ codes "]\n"
+abbrev pub listing_text : syntax.Grammar → List ℕ → ℕ → List ℕ
+listing_text g symbol size = codes "[" ++ maple_parts g.rules (parts_of (listing g (Name symbol) (supply g.universe size))) ++ codes "]\n"
 
 -- what `allstructs` of a class at a size does, in a statement that begins in this line, where the check says this of the class
-abbrev pub effect_of_listing : Option Refused → Rules → List ℕ → ℕ → ℕ → Effect
-effect_of_listing None rules symbol size line = writing (listing_text rules symbol size)
-effect_of_listing (Some refused) rules symbol size line = refusing line (Grammar refused)
+abbrev pub effect_of_listing : Option Refused → syntax.Grammar → List ℕ → ℕ → ℕ → Effect
+effect_of_listing None g symbol size line = writing (listing_text g symbol size)
+effect_of_listing (Some refused) g symbol size line = refusing line (Grammar refused)
 
 -- `allstructs` of a class at a size does this, in a statement that begins in this line
-pub record ListingDoes (rules : Rules) (symbol : List ℕ) (size line : ℕ) (whole : Effect) : Type 0 where
+pub record ListingDoes (g : syntax.Grammar) (symbol : List ℕ) (size line : ℕ) (whole : Effect) : Type 0 where
   pub said : Option Refused
-  pub checks : Checks (unlabelled rules) (Some symbol) said
-  pub does : whole ≡ effect_of_listing said rules symbol size line
+  pub checks : Checks g (Some symbol) said
+  pub does : whole ≡ effect_of_listing said g symbol size line
 
--- a statement that begins in this line does this. Only classes without labels are read yet, and of the other statements only
--- the empty one, which does nothing
+-- a statement that begins in this line does this. Of the other statements only the empty one is read yet, which does nothing
 abbrev pub StatementDoes : Form → ℕ → Effect → Type 0
-StatementDoes (form.List (job.Grammar (class_ref.Written symbol (rules_ref.Written rules) universe) size)) line whole = ListingDoes rules symbol size line whole
+StatementDoes (form.List (job.Grammar (class_ref.Written symbol (rules_ref.Written rules) universe) size)) line whole =
+    ListingDoes (record { rules = rules; universe = universe }) symbol size line whole
 StatementDoes other line whole = whole ≡ nothing
-
--- does no container stand in the rules of the statement
-abbrev pub is_plain_form : Form → Bool
-is_plain_form (form.List (job.Grammar (class_ref.Written symbol (rules_ref.Written rules) universe) size)) = are_plain rules
-is_plain_form other = true
 
 -- a piece that begins in this line does this, as it reads
 abbrev pub PieceDoes : Result Statement ReadRefused → ℕ → Effect → Type 0

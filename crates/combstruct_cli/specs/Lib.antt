@@ -1,9 +1,7 @@
 pub mod Input
-pub mod Unlabelled
 pub mod Refusals
 pub mod Outcome
 pub mod Columns
-pub mod ColumnView
 pub mod NodeListing
 pub mod Answer
 pub mod Laws

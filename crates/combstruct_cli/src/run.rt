@@ -8,13 +8,13 @@ ghost use Rattle.spec_reader.specs.declared.refusal.ReadRefused.{ReadRefused};
 ghost use Rattle.spec_reader.specs.Cutting.{begins_piece, first_piece_of};
 ghost use Rattle.spec_reader.specs.Places.{place_behind};
 ghost use Rattle.spec_reader.specs.Reading.{Answers};
-ghost use Rattle.spec_reader.specs.Laws.{FormKeeps, FormIsSmall};
+ghost use Rattle.spec_reader.specs.Laws.{FormKeeps, FormIsSmall, FormHasSequences};
 ghost use Rattle.struct_model.specs.Structure.{parts_of};
 ghost use Rattle.struct_model.specs.Text.{maple_parts};
-ghost use Rattle.well_founded.specs.Names.{are_plain};
-ghost use Rattle.spec_syntax.specs.Rules.{is_spec, symbol as symbol_of};
+ghost use Rattle.spec_syntax.specs.Rules.{is_spec, are_sequences, symbol as symbol_of};
+ghost use Rattle.well_founded.specs.Checked.{grammar as grammar_of};
 ghost use Rattle.combstruct_cli.specs.NodeListing.{listing_of_rule};
-ghost use Rattle.combstruct_cli.specs.Answer.{Effect, Answer, writing, refusing, refusing_long, listing_text, ListingDoes, StatementDoes, PieceDoes, effect_after, refusing_second, RunsPiece, RunsFirst, IsAnswer, is_plain_form, most_bytes, usage_answer};
+ghost use Rattle.combstruct_cli.specs.Answer.{Effect, Answer, writing, refusing, refusing_long, listing_text, ListingDoes, StatementDoes, PieceDoes, effect_after, refusing_second, RunsPiece, RunsFirst, IsAnswer, most_bytes, usage_answer};
 ghost use Rattle.combstruct_cli.specs.Outcome.{HasErrCause, HasRunCause, Makes, Ends, Gives, DidNotRise, either};
 ghost use Rattle.combstruct_cli.specs.Input.{IsSpent, TookOver, TookWithin};
 ghost use Rattle.combstruct_cli.specs.Laws.{SomeAnswer, OneAnswer};
@@ -106,7 +106,7 @@ const START: Place = Place { line: 1, column: 1 };
 
 /// The line that answers an `allstructs` statement: the texts of the structures of rule number `sym` in brackets.
 fn listing_line(alloc: Global, grammar: &Grammar, sym: u32, size: u32) -> Result<Bytes, AllocError>
-    requires unlabelled { grammar.now.universe ≡ Universe.Unlabelled }
+    requires sequences { IsTrue (are_sequences grammar.now.rules) }
     requires low { 1 ≤ sym }
     requires high { sym ≤ length grammar.now.rules }
     requires size { size ≤ 1000 }
@@ -190,11 +190,11 @@ fn write_listing<O: Sink>(
     size: u32,
     out: &mut O,
 ) -> Result<Outcome, RunFault>
-    requires unlabelled { grammar.now.universe ≡ Universe.Unlabelled }
+    requires sequences { IsTrue (are_sequences grammar.now.rules) }
     requires size { size ≤ 1000 }
     ensures cause { HasErrCause (O.faults out.old) (O.faults out.new) result }
     ensures makes { (symbol : List ℕ) (err : Option (List ℕ)) → grammar.now.start ≡ symbol_of grammar.now.rules symbol → grammar.now.start ≢ None
-        → Makes (O.written out.old) (O.written out.new) err err (writing (listing_text grammar.now.rules symbol size)) result }
+        → Makes (O.written out.old) (O.written out.new) err err (writing (listing_text (grammar_of grammar.now) symbol size)) result }
 {
     let Some(sym) = grammar.start() else {
         return Ok(Outcome::Done);
@@ -211,19 +211,20 @@ fn run_listing<O: Sink, E: Sink>(
     alloc: Global,
     symbol: &Name,
     spec: &Spec,
+    universe: Universe,
     size: u32,
     line: u32,
     out: &mut O,
     err: &mut E,
 ) -> Result<Outcome, RunFault>
     requires spec { IsTrue (is_spec spec.now) }
-    requires plain { IsTrue (are_plain spec.now) }
+    requires sequences { IsTrue (are_sequences spec.now) }
     requires size { size ≤ 1000 }
     ensures cause { HasRunCause (O.faults out.old) (O.faults out.new) (E.faults err.old) (E.faults err.new) result }
-    ensures makes { (whole : Effect) → ListingDoes spec.now symbol.now size line whole
+    ensures makes { (whole : Effect) → ListingDoes (record { rules = spec.now; universe = universe }) symbol.now size line whole
         → Makes (O.written out.old) (O.written out.new) (E.written err.old) (E.written err.new) whole result }
 {
-    match check(alloc, spec, Some(symbol), Universe::Unlabelled) {
+    match check(alloc, spec, Some(symbol), universe) {
         Ok(grammar) => write_listing(alloc, &grammar, size, out),
         Err(refused) => refuse_grammar(alloc, line, refused, err),
     }
@@ -237,7 +238,7 @@ fn run_statement<O: Sink, E: Sink>(
     out: &mut O,
     err: &mut E,
 ) -> Result<Outcome, RunFault>
-    requires plain { IsTrue (is_plain_form statement.now.form) }
+    requires sequences { FormHasSequences statement.now.form }
     requires small { FormIsSmall statement.now.form }
     requires keeps { FormKeeps statement.now.form }
     ensures cause { HasRunCause (O.faults out.old) (O.faults out.new) (E.faults err.old) (E.faults err.new) result }
@@ -245,9 +246,9 @@ fn run_statement<O: Sink, E: Sink>(
         → Makes (O.written out.old) (O.written out.new) (E.written err.old) (E.written err.new) whole result }
 {
     match &statement.form {
-        Form::List(Job::Grammar(ClassRef::Written(symbol, RulesRef::Written(spec), _), size)) => {
-            run_listing(alloc, symbol, spec, *size, line, out, err)
-        }
+        Form::List(
+            Job::Grammar(ClassRef::Written(symbol, RulesRef::Written(spec), universe), size),
+        ) => { run_listing(alloc, symbol, spec, *universe, *size, line, out, err) }
         // No other statement but the empty one is read.
         _ => Ok(Outcome::Done),
     }
@@ -452,7 +453,7 @@ pub fn run<S: Source, F: Shelf, O: Sink, E: Sink>(
     ensures at_end_or_over { result ≡ Status.SomeRefused
         → IsSpent (S.left input.old) (S.left input.new) ⊎ TookOver most_bytes (S.left input.old) (S.left input.new) }
     ensures words { result ≡ Status.Words → words.now.items ≢ [] }
-    ensures no_words { words.now.items ≢ [] → (result ≡ Status.Words) ⊎ (result ≡ Status.Output) ⊎ (result ≡ Status.Memory) }
+    ensures with_words { words.now.items ≢ [] → (result ≡ Status.Words) ⊎ (result ≡ Status.Output) ⊎ (result ≡ Status.Memory) }
     ensures input { result ≡ Status.Input → Rose (S.faults input.old) (S.faults input.new) }
     ensures output { result ≡ Status.Output → Rose (O.faults out.old) (O.faults out.new) ⊎ Rose (E.faults err.old) (E.faults err.new) }
     ensures later { (S.faults input.old ≤ S.faults input.new) × (O.faults out.old ≤ O.faults out.new) × (E.faults err.old ≤ E.faults err.new) }
@@ -586,6 +587,35 @@ mod tests {
                 "# all of them\n\t allstructs ( [S,{S=Union(Z,# twice\r\nAtom)},unlabelled] ,size=01 ) ; # done",
                 "[Z, Z]\n",
             ),
+            (
+                "allstructs([S, {S = Prod(Z, Z)}, labelled], size = 2);",
+                "[Prod(Z[1], Z[2]), Prod(Z[2], Z[1])]\n",
+            ),
+            (
+                "allstructs([S, {S = Sequence(Union(Z, Prod(Z, Z)), 2 >= card)}], size = 3);",
+                "[Sequence(Z, Prod(Z, Z)), Sequence(Prod(Z, Z), Z)]\n",
+            ),
+            (
+                "allstructs([S, {S = Sequence(Z)}, labeled], size = 0);",
+                "[Sequence()]\n",
+            ),
+            ("allstructs([Z, {Z = Z}, labelled], size = 1);", "[Z[1]]\n"),
+            (
+                "allstructs([T, {T = Prod(Z, Sequence(T))}, labelled], size = 3);",
+                "[Prod(Z[1], Sequence(Prod(Z[2], Sequence()), Prod(Z[3], Sequence()))), Prod(Z[1], Sequence(Prod(Z[2], Sequence(Prod(Z[3], Sequence()))))), Prod(Z[1], Sequence(Prod(Z[3], Sequence(Prod(Z[2], Sequence()))))), Prod(Z[1], Sequence(Prod(Z[3], Sequence()), Prod(Z[2], Sequence()))), Prod(Z[2], Sequence(Prod(Z[1], Sequence()), Prod(Z[3], Sequence()))), Prod(Z[2], Sequence(Prod(Z[1], Sequence(Prod(Z[3], Sequence()))))), Prod(Z[2], Sequence(Prod(Z[3], Sequence(Prod(Z[1], Sequence()))))), Prod(Z[2], Sequence(Prod(Z[3], Sequence()), Prod(Z[1], Sequence()))), Prod(Z[3], Sequence(Prod(Z[1], Sequence()), Prod(Z[2], Sequence()))), Prod(Z[3], Sequence(Prod(Z[1], Sequence(Prod(Z[2], Sequence()))))), Prod(Z[3], Sequence(Prod(Z[2], Sequence(Prod(Z[1], Sequence()))))), Prod(Z[3], Sequence(Prod(Z[2], Sequence()), Prod(Z[1], Sequence())))]\n",
+            ),
+            (
+                "allstructs([S, {S = Sequence(Union(a, b), card = 2), a = Z, b = Z}, labelled], size = 2);",
+                "[Sequence(a[1], a[2]), Sequence(a[1], b[2]), Sequence(b[1], a[2]), Sequence(b[1], b[2]), Sequence(a[2], a[1]), Sequence(a[2], b[1]), Sequence(b[2], a[1]), Sequence(b[2], b[1])]\n",
+            ),
+            (
+                "allstructs([S, {S = Prod(a, A), a = Z, A = Union(Z, Prod(E, Z, Z)), E = Epsilon}, labelled], size = 3);",
+                "[Prod(a[1], Prod(E, Z[2], Z[3])), Prod(a[1], Prod(E, Z[3], Z[2])), Prod(a[2], Prod(E, Z[1], Z[3])), Prod(a[2], Prod(E, Z[3], Z[1])), Prod(a[3], Prod(E, Z[1], Z[2])), Prod(a[3], Prod(E, Z[2], Z[1]))]\n",
+            ),
+            (
+                "allstructs([S, {S = Sequence(Prod(Z, Z), 2 <= card)}, unlabeled], size = 6);",
+                "[Sequence(Prod(Z, Z), Prod(Z, Z), Prod(Z, Z))]\n",
+            ),
         ];
         for (script, answer) in cases {
             sees(&rt, alloc, script, answer, "", Status::Well)?;
@@ -636,6 +666,16 @@ mod tests {
             ),
             (
                 "allstructs([S, {S = Z}, unlabelled], size = 1001);",
+                "",
+                "line 1: error 3: limit size\n",
+            ),
+            (
+                "allstructs([S, {S = Sequence(Union(Z, Epsilon))}], size = 1);",
+                "",
+                "line 1: error 23: rule S has a container over a class with a structure of size 0\n",
+            ),
+            (
+                "allstructs([S, {S = Sequence(Z, card = 1001)}], size = 1);",
                 "",
                 "line 1: error 3: limit size\n",
             ),

@@ -1,20 +1,20 @@
-use Rattle.std.proofs.Common.{ℕ, ◌≡◌, ◌≤◌, ◌<◌, ◌+◌, ◌-◌, ◌^◌, Some, [], length, take, map, sym, ap, subst, ◌∙◌, arith}
-use Rattle.std.specs.List.{range_with_len}
+use Rattle.std.proofs.Common.{ℕ, ◌≡◌, ◌≤◌, ◌<◌, ◌+◌, ◌-◌, ◌*◌, Some, [], All, length, take, map, sym, ap, subst, ◌∙◌, arith}
 use Rattle.std.proofs.lemmas.Result.{IfOk-weaker}
 use Rattle.spec_syntax.specs.Rules.{all_nodes}
 use Rattle.struct_model.specs.Structure.{Eps, Atom}
 use Rattle.well_founded.specs.declared.node.NodeKind.TheVariants as told
 use Rattle.well_founded.specs.Nodes.{right_node}
 use Rattle.well_founded.specs.NodeKinds.{children_at}
-use Rattle.listing_laws.specs.Lister.{product, named}
-use Rattle.combstruct_cli.specs.Columns.{column_to, word_at, alternatives_at, products_of}
-use Rattle.combstruct_cli.specs.ColumnView.{lists_of}
-use Rattle.combstruct_cli.specs.NodeListing.{HasKind, listing_of_node, listing_of_rule, least_at, rank_at, rule_rank, column_of, columns_of}
-use Rattle.combstruct_cli.proofs.ColumnLemmas.{column_same, column_agree, mapped_column}
-use Rattle.combstruct_cli.proofs.ListerSteps.{column_step, columns_step, same_count, child_at, entry_is, take_whole}
-use Rattle.combstruct_cli.proofs.NodeLemmas.{container_left, epsilon_listed, atom_listed, none_is_container, rule_listed, right_listed, right_epsilon, right_atom, rank_within, below_least, rule_falls, told_rank, union_at, union_falls, prod_listed, products_below, component_least, prod_falls, column_below}
+use Rattle.listing_laws.specs.Lister.{product, sequence, named}
+use Rattle.combstruct_cli.specs.Columns.{of_size, column_to, only_at, only_label, HaveFewAtoms, alternatives_at}
+use Rattle.combstruct_cli.specs.NodeListing.{HasKind, IsElement, listing_of_node, listing_of_rule, least_at, rank_at, rule_rank, column_of, components_from, repeated_of}
+use Rattle.combstruct_cli.proofs.ColumnLemmas.{column_step, column_last, column_same, column_agree, column_all, mapped_column, within_column}
+use Rattle.combstruct_cli.proofs.ListerSteps.{columns_step, same_count, child_at, entry_is, take_whole}
+use Rattle.combstruct_cli.proofs.NodeLemmas.{none_is_other, epsilon_listed, atom_listed, rule_listed, right_listed, right_epsilon, right_atom, rank_within, below_least, rule_falls, told_rank, union_at, union_falls, column_below}
+use Rattle.combstruct_cli.proofs.ProdLemmas.{prod_listed, prod_atoms, component_least, prod_falls}
+use Rattle.combstruct_cli.proofs.SequenceLemmas.{is_some, none_other, sequence_listed, sequence_atoms, sequence_falls, element_least, within_nodes}
 use Rattle.combstruct_cli.proofs.list.+listing.Goals as goal
-use Rattle.combstruct_cli.proofs.list.+listing.Goals.{list_union-else-loop-size-test, list_union-then-loop-size-test+in_ok-list_alternatives+in_ok-push+else-size-most, list_prod-else-loop-size-test, list_prod-then-loop-size-test+in_ok-products+in_ok-wrap_products+in_ok-push+else-size-most}
+use Rattle.combstruct_cli.proofs.list.+listing.Goals.{list_union-else-loop-size-test, list_union-then-loop-size-test+in_ok-list_alternatives+in_ok-push+else-size-most}
 
 -- ---- list_rule_column
 
@@ -25,7 +25,7 @@ list_rule_column-returns-in-Epsilon t c =
     let there : HasKind checked (right_node checked.rules c.args.sym) told.Epsilon =
     subst (λ (node : ℕ). HasKind checked node told.Epsilon) c.rule_node-right.ensures.value is in
     IfOk-weaker c.list_word.result _ _
-    (λ column h. h ∙ sym (column_same (listing_of_rule checked c.args.sym) (word_at (Eps c.args.sym) 0) c.args.most
+    (λ column h. h ∙ sym (column_same (listing_of_rule checked c.args.sym) (only_at (Eps c.args.sym) 0) c.args.most
     (λ size. right_epsilon checked c.requires.grammar c.args.sym size c.requires.low c.requires.high there))) c.list_word.ensures
 
 pub list_rule_column-returns-in-Atom : goal.list_rule_column-returns-in-Atom
@@ -34,8 +34,10 @@ list_rule_column-returns-in-Atom t c =
     let is : HasKind checked c.rule_node-right.result told.Atom = c.kind.ensures ∙ ap (λ kind. Some kind) c.in-Atom.is in
     let there : HasKind checked (right_node checked.rules c.args.sym) told.Atom =
     subst (λ (node : ℕ). HasKind checked node told.Atom) c.rule_node-right.ensures.value is in
+    let label : c.atom_label.result ≡ only_label checked.universe = c.atom_label.ensures ∙ ap only_label c.universe.ensures in
     IfOk-weaker c.list_word-in-Atom.result _ _
-    (λ column h. h ∙ sym (column_same (listing_of_rule checked c.args.sym) (word_at (Atom c.args.sym 0) 1) c.args.most
+    (λ column h. h ∙ ap (λ (l : ℕ). column_to (only_at (Atom c.args.sym l) 1) c.args.most) label
+    ∙ sym (column_same (listing_of_rule checked c.args.sym) (only_at (Atom c.args.sym (only_label checked.universe)) 1) c.args.most
     (λ size. right_atom checked c.requires.grammar c.args.sym size c.requires.low c.requires.high there))) c.list_word-in-Atom.ensures
 
 pub list_rule_column-list_node-requires : goal.list_rule_column-list_node-requires
@@ -65,15 +67,17 @@ list_node-returns-in-Epsilon t c =
     let checked = c.args.grammar.now in
     let is : HasKind checked c.args.node told.Epsilon = c.kind.ensures ∙ ap (λ kind. Some kind) c.in-Epsilon.is in
     IfOk-weaker c.list_word.result _ _
-    (λ column h. h ∙ sym (column_same (listing_of_node checked c.args.node) (word_at (Eps 0) 0) c.args.most
+    (λ column h. h ∙ sym (column_same (listing_of_node checked c.args.node) (only_at (Eps 0) 0) c.args.most
     (λ size. epsilon_listed checked c.requires.grammar c.args.node size is))) c.list_word.ensures
 
 pub list_node-returns-in-Atom : goal.list_node-returns-in-Atom
 list_node-returns-in-Atom t c =
     let checked = c.args.grammar.now in
     let is : HasKind checked c.args.node told.Atom = c.kind.ensures ∙ ap (λ kind. Some kind) c.in-Atom.is in
+    let label : c.atom_label.result ≡ only_label checked.universe = c.atom_label.ensures ∙ ap only_label c.universe.ensures in
     IfOk-weaker c.list_word-in-Atom.result _ _
-    (λ column h. h ∙ sym (column_same (listing_of_node checked c.args.node) (word_at (Atom 0 0) 1) c.args.most
+    (λ column h. h ∙ ap (λ (l : ℕ). column_to (only_at (Atom 0 l) 1) c.args.most) label
+    ∙ sym (column_same (listing_of_node checked c.args.node) (only_at (Atom 0 (only_label checked.universe)) 1) c.args.most
     (λ size. atom_listed checked c.requires.grammar c.args.node size is))) c.list_word-in-Atom.ensures
 
 pub list_node-list_rule_column-requires : goal.list_node-list_rule_column-requires
@@ -93,39 +97,37 @@ list_node-returns-in-Rule t c =
 
 pub list_node-returns-in_default : goal.list_node-returns-in_default
 list_node-returns-in_default t c =
-    absurd (none_is_container c.args.grammar.now c.requires.grammar c.args.node c.kind.result c.kind.ensures
-    (container_left c.kind.result c.in_default.not-Epsilon c.in_default.not-Atom c.in_default.not-Rule c.in_default.not-Union c.in_default.not-Prod))
+    absurd (none_is_other c.args.grammar.now c.requires.grammar c.args.node c.kind.result c.kind.ensures
+    c.in_default.not-Epsilon c.in_default.not-Atom c.in_default.not-Rule c.in_default.not-Union c.in_default.not-Prod c.in_default.not-Sequence)
 
 -- ---- list_union
 
 pub list_union-list_alternatives-requires : goal.list_union-list_alternatives-requires
 list_union-list_alternatives-requires t c =
     let checked = c.args.grammar.now in
-    same_count lists_of (λ child. column_to (listing_of_node checked child) c.args.most) c.deref.result.now (children_at checked.rules c.args.node) c.children.result
-    c.children.ensures (ap (map lists_of) c.deref.ensures.value ∙ c.in_ok-columns.ensures)
+    same_count (λ child. column_to (listing_of_node checked child) c.args.most) c.deref.result.now (children_at checked.rules c.args.node) c.children.result
+    c.children.ensures (c.deref.ensures.value ∙ c.in_ok-columns.ensures)
 
 pub list_union-loop-size-preserved : goal.list_union-loop-size-preserved
 list_union-loop-size-preserved t c =
     let checked = c.args.grammar.now in
-    column_step (λ list. list.items) (listing_of_node checked c.args.node) c.loop-size.sizes.items c.push.new.self.items c.in_ok-list_alternatives.field-0 c.loop-size.size
-    c.in_ok-push.ensures.items
-    (c.in_ok-list_alternatives.ensures ∙ ap (λ columns. alternatives_at columns c.loop-size.size) (ap (map lists_of) c.deref.ensures.value ∙ c.in_ok-columns.ensures)
+    column_step (listing_of_node checked c.args.node) c.loop-size.column c.push.new.self c.in_ok-list_alternatives.field-0.items c.loop-size.size
+    c.in_ok-push.ensures
+    (c.in_ok-list_alternatives.ensures ∙ ap (λ columns. alternatives_at columns c.loop-size.size) (c.deref.ensures.value ∙ c.in_ok-columns.ensures)
     ∙ union_at checked c.requires.grammar c.args.node c.loop-size.size c.args.most c.requires.node (omega (arith, c.loop-size-test.true))) c.loop-size.invariant
 
 pub list_union-returns : goal.list_union-returns
 list_union-returns t c =
-    let lists = listing_of_node c.args.grammar.now c.args.node in
+    let checked = c.args.grammar.now in
     elim c.loop-size-test.branch [
       | list_union-else-loop-size-test w ↦ absurd (omega (arith, w.loop-size-test.false, c.loop-size.auto.size-end))
       | list_union-then-loop-size-test+in_ok-list_alternatives+in_ok-push+else-size-most w ↦
-          let last : c.loop-size.size ≡ c.args.most = omega arith in
-          ap (λ sizes. lists_of (record { sizes = sizes })) w.sizes-is
-          ∙ column_step (λ list. list.items) lists c.loop-size.sizes.items w.push.new.self.items w.in_ok-list_alternatives.field-0 c.loop-size.size
-          w.in_ok-push.ensures.items
-          (w.in_ok-list_alternatives.ensures ∙ ap (λ columns. alternatives_at columns c.loop-size.size) (ap (map lists_of) w.deref.ensures.value ∙ c.in_ok-columns.ensures)
-          ∙ union_at c.args.grammar.now c.requires.grammar c.args.node c.loop-size.size c.args.most c.requires.node (omega (arith, last)))
-          c.loop-size.invariant
-          ∙ ap (λ size. map lists (range_with_len 0 (size + 1))) last
+          w.column-is
+          ∙ column_last (listing_of_node checked c.args.node) c.loop-size.column w.push.new.self w.in_ok-list_alternatives.field-0.items c.loop-size.size c.args.most
+          w.in_ok-push.ensures
+          (w.in_ok-list_alternatives.ensures ∙ ap (λ columns. alternatives_at columns c.loop-size.size) (w.deref.ensures.value ∙ c.in_ok-columns.ensures)
+          ∙ union_at checked c.requires.grammar c.args.node c.loop-size.size c.args.most c.requires.node c.loop-size.auto.size-end)
+          c.loop-size.invariant (omega arith)
     ]
 
 -- ---- list_arguments
@@ -140,7 +142,7 @@ list_arguments-list_node-requires t c =
 pub list_arguments-loop-place-preserved : goal.list_arguments-loop-place-preserved
 list_arguments-loop-place-preserved t c =
     let checked = c.args.grammar.now in
-    columns_step lists_of (λ child. column_to (listing_of_node checked child) c.args.most) c.loop-place.columns.items c.push.new.self.items c.in_ok-list_node.field-0
+    columns_step (λ child. column_to (listing_of_node checked child) c.args.most) c.loop-place.columns.items c.push.new.self.items c.in_ok-list_node.field-0
     (children_at checked.rules c.args.node) c.loop-place.place c.child.result c.in_ok-push.ensures.items c.in_ok-list_node.ensures
     (child_at (children_at checked.rules c.args.node) c.loop-place.place c.child.result c.child.ensures.value) c.loop-place.invariant
 
@@ -161,42 +163,25 @@ list_prod-returns-then-most-least t c =
     (λ column h. h ∙ column_agree (λ size. []) (listing_of_node checked c.args.node) c.args.most
     (λ size within. sym (below_least checked c.requires.grammar c.args.node size (omega (arith, least, within, c.if-most-least.true))))) c.list_nothing.ensures
 
-pub list_prod-wrap_products-requires : goal.list_prod-wrap_products-requires
-list_prod-wrap_products-requires t c =
+pub list_prod-wrap_column-requires : goal.list_prod-wrap_column-requires
+list_prod-wrap_column-requires t c =
     let checked = c.args.grammar.now in
     let least : least_at checked c.args.node ≡ c.least-least.result = entry_is checked.leasts c.args.node c.least-least.result c.least-least.ensures.value in
-    products_below checked c.requires.grammar (2 ^ 32) c.args.node c.loop-size.size (c.args.most - c.least-least.result) c.in_ok-products.products.items c.requires.node
-    (omega (arith, least, c.if-most-least.false)) (omega (arith, least, c.if-most-least.false, c.loop-size-test.true)) (omega (arith, c.loop-size-test.true))
-    (c.in_ok-products.ensures ∙ ap (λ columns. products_of columns c.loop-size.size) (ap (map lists_of) c.deref.ensures.value ∙ c.in_ok-columns.ensures))
-
-pub list_prod-loop-size-preserved : goal.list_prod-loop-size-preserved
-list_prod-loop-size-preserved t c =
-    let checked = c.args.grammar.now in
-    let least : least_at checked c.args.node ≡ c.least-least.result = entry_is checked.leasts c.args.node c.least-least.result c.least-least.ensures.value in
-    column_step (λ list. list.items) (listing_of_node checked c.args.node) c.loop-size.sizes.items c.push.new.self.items c.in_ok-wrap_products.field-0 c.loop-size.size
-    c.in_ok-push.ensures.items
-    (c.in_ok-wrap_products.ensures ∙ ap (map product) (c.in_ok-products.ensures ∙ ap (λ columns. products_of columns c.loop-size.size) (ap (map lists_of) c.deref.ensures.value ∙ c.in_ok-columns.ensures))
-    ∙ sym (prod_listed checked c.requires.grammar c.args.node c.loop-size.size (c.args.most - c.least-least.result) c.requires.node
-    (omega (arith, least, c.if-most-least.false)) (omega (arith, least, c.if-most-least.false, c.loop-size-test.true)))) c.loop-size.invariant
+    subst (All (All HaveFewAtoms)) (sym c.in_ok-lists.ensures)
+    (column_all (All HaveFewAtoms) (components_from checked c.args.node 0) (least_at checked c.args.node + (c.args.most - c.least-least.result)) (λ k within.
+    prod_atoms checked c.requires.grammar c.args.node k c.requires.node (omega (arith, least, within, c.if-most-least.false, c.requires.size))))
 
 pub list_prod-returns : goal.list_prod-returns
 list_prod-returns t c =
     let checked = c.args.grammar.now in
     let least : least_at checked c.args.node ≡ c.least-least.result = entry_is checked.leasts c.args.node c.least-least.result c.least-least.ensures.value in
-    let lists = listing_of_node c.args.grammar.now c.args.node in
-    elim c.loop-size-test.branch [
-      | list_prod-else-loop-size-test w ↦ absurd (omega (arith, w.loop-size-test.false, c.loop-size.auto.size-end))
-      | list_prod-then-loop-size-test+in_ok-products+in_ok-wrap_products+in_ok-push+else-size-most w ↦
-          let last : c.loop-size.size ≡ c.args.most = omega arith in
-          ap (λ sizes. lists_of (record { sizes = sizes })) w.sizes-is
-          ∙ column_step (λ list. list.items) lists c.loop-size.sizes.items w.push.new.self.items w.in_ok-wrap_products.field-0 c.loop-size.size
-          w.in_ok-push.ensures.items
-          (w.in_ok-wrap_products.ensures ∙ ap (map product) (w.in_ok-products.ensures ∙ ap (λ columns. products_of columns c.loop-size.size) (ap (map lists_of) w.deref.ensures.value ∙ c.in_ok-columns.ensures))
-          ∙ sym (prod_listed checked c.requires.grammar c.args.node c.loop-size.size (c.args.most - c.least-least.result) c.requires.node
-          (omega (arith, least, c.if-most-least.false)) (omega (arith, least, c.if-most-least.false, last))))
-          c.loop-size.invariant
-          ∙ ap (λ size. map lists (range_with_len 0 (size + 1))) last
-    ]
+    let whole : least_at checked c.args.node + (c.args.most - c.least-least.result) ≡ c.args.most = omega (arith, least, c.if-most-least.false) in
+    IfOk-weaker c.wrap_column.result _ _
+    (λ column h. h ∙ ap (map (map product)) c.in_ok-lists.ensures
+    ∙ mapped_column (map product) (components_from checked c.args.node 0) (least_at checked c.args.node + (c.args.most - c.least-least.result))
+    ∙ sym (column_same (listing_of_node checked c.args.node) (λ n. map product (components_from checked c.args.node 0 n)) (least_at checked c.args.node + (c.args.most - c.least-least.result))
+    (λ n. prod_listed checked c.requires.grammar c.args.node n c.requires.node))
+    ∙ ap (column_to (listing_of_node checked c.args.node)) whole) c.wrap_column.ensures
 
 -- ---- list_columns
 
@@ -227,7 +212,7 @@ list_columns-loop-place-preserved t c =
     let checked = c.args.grammar.now in
     let at = child_at (children_at checked.rules c.args.node) c.loop-place.place c.child-child.result c.child-child.ensures.value in
     let least : least_at checked c.child-child.result ≡ c.least.result = entry_is checked.leasts c.child-child.result c.least.result c.least.ensures.value in
-    columns_step lists_of (column_of checked c.args.spare) c.loop-place.columns.items c.push.new.self.items c.in_ok-list_node.field-0
+    columns_step (column_of checked c.args.spare) c.loop-place.columns.items c.push.new.self.items c.in_ok-list_node.field-0
     (children_at checked.rules c.args.node) c.loop-place.place c.child-child.result c.in_ok-push.ensures.items
     (c.in_ok-list_node.ensures ∙ ap (λ (least : ℕ). column_to (listing_of_node checked c.child-child.result) (least + c.args.spare)) (sym least)) at c.loop-place.invariant
 
@@ -237,3 +222,54 @@ list_columns-returns t c =
     let all : take c.loop-place.place children ≡ children =
     take_whole children c.loop-place.place c.children-place-end.result c.children-place-end.ensures (omega (arith, c.loop-place-test.false)) in
     c.loop-place.invariant ∙ ap (map (column_of c.args.grammar.now c.args.spare)) all
+
+-- ---- list_sequence
+
+pub list_sequence-wrap_column-requires : goal.list_sequence-wrap_column-requires
+list_sequence-wrap_column-requires t c =
+    let checked = c.args.grammar.now in
+    subst (All (All HaveFewAtoms)) (sym c.in_ok-lists.ensures)
+    (column_all (All HaveFewAtoms) (repeated_of checked c.child-element.result c.card-card.result) c.args.most (λ k within.
+    sequence_atoms checked c.requires.grammar c.args.node c.child-element.result c.card-card.result k c.requires.node c.child-element.ensures.value c.card-card.ensures
+    (omega (arith, within, c.requires.size))))
+
+pub list_sequence-returns : goal.list_sequence-returns
+list_sequence-returns t c =
+    let checked = c.args.grammar.now in
+    IfOk-weaker c.wrap_column.result _ _
+    (λ column h. h ∙ ap (map (map sequence)) c.in_ok-lists.ensures
+    ∙ mapped_column (map sequence) (repeated_of checked c.child-element.result c.card-card.result) c.args.most
+    ∙ sym (column_same (listing_of_node checked c.args.node) (λ n. map sequence (repeated_of checked c.child-element.result c.card-card.result n)) c.args.most
+    (λ n. sequence_listed checked c.requires.grammar c.args.node c.child-element.result c.card-card.result n c.requires.node c.child-element.ensures.value c.card-card.ensures)))
+    c.wrap_column.ensures
+
+-- ---- list_element
+
+pub list_element-least-requires : goal.list_element-least-requires
+list_element-least-requires t c =
+    within_nodes c.args.grammar.now c.requires.grammar c.args.element (record { node = c.args.node; sequence = c.requires.node; child = c.requires.element })
+
+pub list_element-list_node-requires : goal.list_element-list_node-requires
+list_element-list_node-requires t c =
+    let checked = c.args.grammar.now in
+    let is : IsElement checked c.args.element = record { node = c.args.node; sequence = c.requires.node; child = c.requires.element } in
+    let within = within_nodes checked c.requires.grammar c.args.element is in
+    let least : least_at checked c.args.element ≡ c.least.result = entry_is checked.leasts c.args.element c.least.result c.least.ensures.value in
+    let together : c.saturating_sub.result * c.least.result ≡ (c.args.card.low - 1) * least_at checked c.args.element = (λ i. c.saturating_sub.ensures i * sym least i) in
+    let some : 1 ≤ least_at checked c.args.element = element_least checked c.requires.grammar c.args.element is in
+    let falls = column_below (length (all_nodes checked.rules)) (c.args.most - c.saturating_mul-others.result) c.args.most (rank_at checked c.args.node) (rank_at checked c.args.element) (omega arith)
+    (rank_within checked c.requires.grammar c.args.element within) (λ same.
+    sequence_falls checked c.requires.grammar c.args.node c.args.element c.args.card c.requires.node c.requires.element c.requires.card
+    (none_other c.args.card.low (least_at checked c.args.element) some (omega (arith, same, together, c.saturating_mul-others.ensures, c.if-most-others.false, c.requires.size)))
+    (is_some c.args.card.high (sym c.if-eq.ensures))) in
+    (omega (arith, c.decreases, falls), (c.requires.grammar, (within, omega (arith, c.requires.size))))
+
+pub list_element-returns : goal.list_element-returns
+list_element-returns t c =
+    let checked = c.args.grammar.now in
+    let least : least_at checked c.args.element ≡ c.least.result = entry_is checked.leasts c.args.element c.least.result c.least.ensures.value in
+    let together : c.saturating_sub.result * c.least.result ≡ (c.args.card.low - 1) * least_at checked c.args.element = (λ i. c.saturating_sub.ensures i * sym least i) in
+    IfOk-weaker c.list_node.result _ _
+    (λ column h k admitted room. ap (λ structs. of_size structs k) h
+    ∙ within_column (listing_of_node checked c.args.element) (c.args.most - c.saturating_mul-others.result) k
+    (omega (arith, room, together, c.saturating_mul-others.ensures))) c.list_node.ensures

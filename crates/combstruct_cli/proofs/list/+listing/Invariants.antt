@@ -3,7 +3,6 @@ use Rattle.std.specs.List.{range_with_len}
 use Rattle.spec_syntax.specs.Rules.{all_nodes}
 use Rattle.well_founded.specs.NodeKinds.{children_at}
 use Rattle.combstruct_cli.specs.Columns.{column_to}
-use Rattle.combstruct_cli.specs.ColumnView.{lists_of}
 use Rattle.combstruct_cli.specs.NodeListing.{listing_of_node, least_at, column_of, rank_at, rule_rank}
 use Rattle.combstruct_cli.proofs.list.+listing.Given as goal
 
@@ -19,6 +18,9 @@ decreases-list_union l = 4 * (l.most * length (all_nodes l.grammar.now.rules) + 
 abbrev pub decreases-list_prod : goal.decreases-list_prod
 decreases-list_prod l = 4 * (l.most * length (all_nodes l.grammar.now.rules) + rank_at l.grammar.now l.node) + 2
 
+abbrev pub decreases-list_sequence : goal.decreases-list_sequence
+decreases-list_sequence l = 4 * (l.most * length (all_nodes l.grammar.now.rules) + rank_at l.grammar.now l.node) + 2
+
 abbrev pub decreases-list_columns : goal.decreases-list_columns
 decreases-list_columns l =
     4 * ((least_at l.grammar.now l.node + l.spare) * length (all_nodes l.grammar.now.rules) + rank_at l.grammar.now l.node) + 1
@@ -26,16 +28,15 @@ decreases-list_columns l =
 abbrev pub decreases-list_arguments : goal.decreases-list_arguments
 decreases-list_arguments l = 4 * (l.most * length (all_nodes l.grammar.now.rules) + rank_at l.grammar.now l.node) + 1
 
+abbrev pub decreases-list_element : goal.decreases-list_element
+decreases-list_element l = 4 * (l.most * length (all_nodes l.grammar.now.rules) + rank_at l.grammar.now l.node) + 1
+
 abbrev pub invariant-list_union-loop-size : goal.invariant-list_union-loop-size
-invariant-list_union-loop-size l = map (λ list. list.items) l.sizes.items ≡ map (listing_of_node l.grammar l.node) (range_with_len 0 l.size)
+invariant-list_union-loop-size l = l.column ≡ map (listing_of_node l.grammar l.node) (range_with_len 0 l.size)
 
 abbrev pub invariant-list_arguments-loop-place : goal.invariant-list_arguments-loop-place
 invariant-list_arguments-loop-place l =
-    map lists_of l.columns.items ≡ map (λ child. column_to (listing_of_node l.grammar child) l.most) (take l.place (children_at l.grammar.rules l.node))
-
-abbrev pub invariant-list_prod-loop-size : goal.invariant-list_prod-loop-size
-invariant-list_prod-loop-size l = map (λ list. list.items) l.sizes.items ≡ map (listing_of_node l.grammar l.node) (range_with_len 0 l.size)
+    l.columns.items ≡ map (λ child. column_to (listing_of_node l.grammar child) l.most) (take l.place (children_at l.grammar.rules l.node))
 
 abbrev pub invariant-list_columns-loop-place : goal.invariant-list_columns-loop-place
-invariant-list_columns-loop-place l =
-    map lists_of l.columns.items ≡ map (column_of l.grammar l.spare) (take l.place (children_at l.grammar.rules l.node))
+invariant-list_columns-loop-place l = l.columns.items ≡ map (column_of l.grammar l.spare) (take l.place (children_at l.grammar.rules l.node))

@@ -3,17 +3,18 @@ use Rattle.spec_syntax.specs.declared.statement.Statement.{Statement}
 use Rattle.spec_reader.specs.declared.refusal.ReadRefused.{ReadRefused}
 use Rattle.spec_reader.proofs.Keeps.{readings-keep}
 use Rattle.spec_reader.proofs.Small.{readings-small}
+use Rattle.spec_reader.proofs.Sequences.{readings-have-sequences}
 use Rattle.combstruct_cli.specs.declared.refusal.Refusal.TheVariants.{Read}
 use Rattle.combstruct_cli.specs.Answer.{refusing, PieceDoes}
 use Rattle.combstruct_cli.proofs.RunLemmas.{Makes-same}
-use Rattle.combstruct_cli.proofs.ReadingLemmas.{answers_same, is_plain_form-read, IsFault-from, is_memory}
+use Rattle.combstruct_cli.proofs.ReadingLemmas.{answers_same, IsFault-from, is_memory}
 use Rattle.combstruct_cli.proofs.run.run_piece.Goals as goal
 
 pub run_statement-requires : goal.run_statement-requires
 run_statement-requires g c =
     let piece = c.args.piece.now in
     record {
-      plain = is_plain_form-read piece c.in-Ok.statement c.in-Ok.ensures.read;
+      sequences = readings-have-sequences piece c.in-Ok.statement c.in-Ok.ensures.read;
       small = readings-small piece c.in-Ok.statement c.in-Ok.ensures.read;
       keeps = readings-keep piece c.in-Ok.statement c.in-Ok.ensures.read;
     }

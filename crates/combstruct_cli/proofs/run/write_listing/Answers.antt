@@ -1,4 +1,5 @@
 use Rattle.std.proofs.Common.{List, ℕ, refl, sym, ◌∙◌}
+use Rattle.well_founded.specs.Checked.{grammar}
 use Rattle.combstruct_cli.specs.Answer.{writing, listing_text}
 use Rattle.combstruct_cli.proofs.RunLemmas.{Makes-wrote, Makes-wrote-part}
 use Rattle.combstruct_cli.proofs.AnswerLemmas.{text_listed}
@@ -11,14 +12,14 @@ pub returns-in-Ok-clause-makes : goal.returns-in-Ok-clause-makes
 returns-in-Ok-clause-makes g c =
     λ symbol err starts some.
     let checked = c.args.grammar.now in
-    let listed : List ℕ = listing_text checked.rules symbol c.args.size in
+    let listed : List ℕ = listing_text (grammar checked) symbol c.args.size in
     Makes-wrote (g.O.Sink.written c.args.out.now) (g.O.Sink.written c.write_text.new.sink) err err c.as_slice.result.now listed (writing listed) c.in-Ok.ensures.whole
-    (c.as_slice.ensures ∙ c.in_ok-text.ensures ∙ text_listed checked symbol c.in-Some.sym c.args.size c.requires.unlabelled (sym starts ∙ sym c.in-Some.ensures.value)) refl
+    (c.as_slice.ensures ∙ c.in_ok-text.ensures ∙ text_listed checked symbol c.in-Some.sym c.args.size (sym starts ∙ sym c.in-Some.ensures.value)) refl
 
 pub returns-clause-makes : goal.returns-clause-makes
 returns-clause-makes g c =
     λ symbol err starts some.
     let checked = c.args.grammar.now in
-    let listed : List ℕ = listing_text checked.rules symbol c.args.size in
+    let listed : List ℕ = listing_text (grammar checked) symbol c.args.size in
     Makes-wrote-part (g.O.Sink.written c.args.out.now) (g.O.Sink.written c.write_text.new.sink) err err c.as_slice.result.now listed (writing listed) c.in-Err.fault c.in-Err.ensures.part
-    (c.as_slice.ensures ∙ c.in_ok-text.ensures ∙ text_listed checked symbol c.in-Some.sym c.args.size c.requires.unlabelled (sym starts ∙ sym c.in-Some.ensures.value)) refl
+    (c.as_slice.ensures ∙ c.in_ok-text.ensures ∙ text_listed checked symbol c.in-Some.sym c.args.size (sym starts ∙ sym c.in-Some.ensures.value)) refl

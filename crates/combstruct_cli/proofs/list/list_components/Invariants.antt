@@ -1,0 +1,15 @@
+use Rattle.std.proofs.Common.{◌≡◌, ◌+◌, ◌≤◌, length}
+use Rattle.well_founded.specs.NodeKinds.{children_at}
+use Rattle.combstruct_cli.specs.Columns.{column_to}
+use Rattle.combstruct_cli.specs.NodeListing.{least_from, components_from}
+use Rattle.combstruct_cli.proofs.list.list_components.Given as goal
+
+abbrev pub invariant-loop-place : goal.invariant-loop-place
+invariant-loop-place l = record {
+  within : l.place ≤ length (children_at l.grammar.rules l.node);
+  least : l.least ≡ least_from l.grammar l.node l.place;
+  lists : l.lists ≡ column_to (components_from l.grammar l.node l.place) (l.least + l.spare);
+}
+
+abbrev pub decreases-loop-place : goal.decreases-loop-place
+decreases-loop-place l = l.place

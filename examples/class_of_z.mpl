@@ -1,0 +1,1 @@
+allstructs([Z, {Z = Atom}, labeled], size = 1);

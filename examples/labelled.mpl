@@ -1,0 +1,1 @@
+allstructs([S, {S = Prod(Z, Z)}, labelled], size = 2);

@@ -1,0 +1,1 @@
+allstructs([S, {S = Prod(A, A), A = Union(Z, Prod(Z, Z))}, labelled], size = 3);

@@ -1,0 +1,1 @@
+allstructs([T, {T = Prod(Z, Sequence(T))}], size = 4);

@@ -1,0 +1,1 @@
+allstructs([P, {P = Sequence(Z)}, labelled], size = 3);
