@@ -14,9 +14,9 @@ use Rattle.struct_model.specs.declared.tree.Form5.{Form5}
 use Rattle.struct_model.specs.declared.tree.Form5.TheVariants as form
 use Rattle.struct_model.specs.Structure.{Structure, Tup, parts_of}
 use Rattle.struct_model.specs.Membership.{supply, is_supply}
-use Rattle.struct_model.specs.Listing.{IsIn}
+use Rattle.lists.specs.Enumeration.{IsIn}
 use Rattle.struct_model.specs.Bounded.{listing}
-use Rattle.struct_model.proofs.Enumerated.{in_map, from_filter}
+use Rattle.lists.proofs.Enumerated.{in_map, from_filter}
 use Rattle.struct_model.proofs.SupplyLaws.{supply_is, supply_size, supply_rises}
 use Rattle.well_founded.specs.declared.node.NodeKind.TheVariants as told
 use Rattle.well_founded.specs.Nodes.{node_at, children_of}

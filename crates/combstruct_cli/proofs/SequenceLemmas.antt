@@ -17,9 +17,9 @@ use Rattle.spec_syntax.specs.Grammar.{Grammar}
 use Rattle.struct_model.specs.declared.tree.Form5.TheVariants as form
 use Rattle.struct_model.specs.Structure.{Structure}
 use Rattle.struct_model.specs.Membership.{supply, is_supply}
-use Rattle.struct_model.specs.Listing.{IsIn}
+use Rattle.lists.specs.Enumeration.{IsIn}
 use Rattle.struct_model.specs.Bounded.{listing}
-use Rattle.struct_model.proofs.Enumerated.{from_filter, from_flat_map}
+use Rattle.lists.proofs.Enumerated.{from_filter, from_flat_map}
 use Rattle.struct_model.proofs.SupplyLaws.{supply_size}
 use Rattle.well_founded.specs.declared.node.NodeKind.TheVariants as told
 use Rattle.well_founded.specs.Nodes.{node_at, children_of}

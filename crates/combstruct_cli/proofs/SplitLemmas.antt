@@ -6,8 +6,8 @@ use Rattle.std.proofs.lemmas.Bool.Decides.{nat_tests}
 use Rattle.spec_syntax.specs.declared.statement.Universe.{Universe}
 use Rattle.struct_model.specs.Structure.{Structure}
 use Rattle.struct_model.specs.Membership.{supply}
-use Rattle.struct_model.specs.Listing.{IsIn}
-use Rattle.struct_model.proofs.Enumerated.{from_filter}
+use Rattle.lists.specs.Enumeration.{IsIn}
+use Rattle.lists.proofs.Enumerated.{from_filter}
 use Rattle.struct_model.proofs.SupplyLaws.{supply_size}
 use Rattle.splits.specs.Splits.{Split, splits}
 use Rattle.splits.specs.Parts.{has_length, parts}

@@ -10,10 +10,11 @@ use Rattle.spec_syntax.specs.Grammar.{Grammar}
 use Rattle.struct_model.specs.Structure.{Structure, Alt, key}
 use Rattle.struct_model.specs.Order.{key_order, order_within}
 use Rattle.struct_model.specs.Membership.{is_of, argument}
-use Rattle.struct_model.specs.Listing.{Enumerated, Before, IsOne, Lists}
+use Rattle.lists.specs.Enumeration.{Enumerated}
+use Rattle.struct_model.specs.Listing.{Before, IsOne, Lists}
 use Rattle.listing_laws.specs.Lister.{alternatives}
 use Rattle.listing_laws.specs.Laws.{ListsEach}
-use Rattle.struct_model.proofs.Enumerated as enumerated
+use Rattle.lists.proofs.Enumerated as enumerated
 use Rattle.listing_laws.proofs.OrderFacts.{same_key, before_within}
 
 module _ (g : Grammar) (u : List ℕ) where

@@ -7,7 +7,8 @@ use Rattle.std.proofs.lemmas.Bool.Decides.{nat_tests}
 use Rattle.spec_syntax.specs.Expression.{Expression, expressions_of}
 use Rattle.spec_syntax.specs.Grammar.{Grammar}
 use Rattle.struct_model.specs.Structure.{Structure, size}
-use Rattle.struct_model.specs.Listing.{IsIn, IsOne}
+use Rattle.lists.specs.Enumeration.{IsIn}
+use Rattle.struct_model.specs.Listing.{IsOne}
 use Rattle.struct_model.specs.Membership.{is_of}
 use Rattle.struct_model.specs.Bounded.{bounds, listing}
 use Rattle.well_founded.specs.Sizes.{IsOf, IsLeast}

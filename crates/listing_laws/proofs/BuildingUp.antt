@@ -6,10 +6,10 @@ use Rattle.struct_model.specs.declared.tree.Form5.{Form5}
 use Rattle.struct_model.specs.declared.tree.Form5.TheVariants as form
 use Rattle.struct_model.specs.Structure.{Structure, Eps, Atom, Named, Alt, Tup, Structures, no_parts, more_parts, part_list, labels, labels_of_parts, size}
 use Rattle.struct_model.specs.Membership.{argument}
-use Rattle.struct_model.specs.Listing.{IsIn}
+use Rattle.lists.specs.Enumeration.{IsIn}
 use Rattle.struct_model.specs.Bounded.{Bounds, down_from, forms, part_lists, leaves, around, up_to_height}
-use Rattle.struct_model.proofs.Within.{in_left, in_right}
-use Rattle.struct_model.proofs.Enumerated.{in_map, in_flat_map}
+use Rattle.lists.proofs.Within.{in_left, in_right}
+use Rattle.lists.proofs.Enumerated.{in_map, in_flat_map}
 
 in_down_from : (n x : ℕ) → x ≤ n → IsIn x (down_from n)
 in_down_from zero x h = inl (omega arith)

@@ -12,11 +12,12 @@ use Rattle.struct_model.specs.declared.tree.Form5.TheVariants as form
 use Rattle.struct_model.specs.Structure.{Structure, Tup, Structures, no_parts, more_parts, part_list, parts_of, labels, labels_of_parts, ascending, key}
 use Rattle.struct_model.specs.Order.{form_rank, key_order, order_within, order_of_parts}
 use Rattle.struct_model.specs.Membership.{is_of, are_of_each}
-use Rattle.struct_model.specs.Listing.{Enumerated, Before, IsOne, Lists}
+use Rattle.lists.specs.Enumeration.{Enumerated}
+use Rattle.struct_model.specs.Listing.{Before, IsOne, Lists}
 use Rattle.splits.specs.Splits.{Split, splits}
 use Rattle.listing_laws.specs.Lister.{product, each_before, by_splits, list_no_components}
 use Rattle.splits.specs.Laws.{PartBefore}
-use Rattle.struct_model.proofs.Enumerated as enumerated
+use Rattle.lists.proofs.Enumerated as enumerated
 use Rattle.struct_model.proofs.AscendingLabels.{Rises, rises_ascending, ascending_both}
 use Rattle.splits.proofs.SplitLaws.{MakesUp, splits_are}
 use Rattle.listing_laws.proofs.OrderFacts.{same_key, before_within, before_by_key, before_by_first, before_by_others, PartsBefore}

@@ -11,7 +11,7 @@ use Rattle.struct_model.specs.declared.tree.Form5.{Form5}
 use Rattle.struct_model.specs.declared.tree.Form5.TheVariants as form
 use Rattle.struct_model.specs.Structure.{Structure, Tup, Structures, part_list}
 use Rattle.struct_model.specs.Membership.{is_of, are_of, are_of_each}
-use Rattle.struct_model.specs.Listing.{IsIn}
+use Rattle.lists.specs.Enumeration.{IsIn}
 use Rattle.well_founded.specs.Rank.{StandsAt}
 
 abbrev pub kind_form : Kind → Form5

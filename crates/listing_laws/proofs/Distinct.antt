@@ -1,6 +1,6 @@
 -- A list of different elements is no longer than a list that has them all.
 use Rattle.std.proofs.Common.{◌≡◌, ◌⊎◌, suc, ◌≤◌, List, [], ◌∷◌, length, refl, sym, ap, ◌∙◌, inl, inr, arith}
-use Rattle.struct_model.specs.Listing.{IsIn, Ascends}
+use Rattle.lists.specs.Enumeration.{IsIn, Ascends}
 
 module _ {X : Type 0} where
   without : (x : X) (ys : List X) → IsIn x ys → List X

@@ -7,7 +7,8 @@ use Rattle.spec_syntax.specs.Rules.{are_sequences}
 use Rattle.spec_syntax.specs.Grammar.{Grammar}
 use Rattle.struct_model.specs.Structure.{Structure, Eps, Atom, Named, Alt, Tup, Structures, no_parts, more_parts, nodes, nodes_of_parts, labels, size, ascending, key}
 use Rattle.struct_model.specs.Membership.{supply, same_labels, is_member}
-use Rattle.struct_model.specs.Listing.{IsIn, Ascends, IsOne}
+use Rattle.lists.specs.Enumeration.{IsIn, Ascends}
+use Rattle.struct_model.specs.Listing.{IsOne}
 use Rattle.struct_model.specs.Bounded.{listing}
 use Rattle.well_founded.specs.declared.refused.Refused.{Refused}
 use Rattle.well_founded.specs.declared.refused.Refused.TheVariants.{Undefined, CycleUnlabelled, Unproductive, NullElement, Endless, Memory}

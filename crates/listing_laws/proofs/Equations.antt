@@ -7,13 +7,14 @@ use Rattle.spec_syntax.specs.Expression as expr
 use Rattle.spec_syntax.specs.Expression.{Expression, Expressions, no_expressions, more_expressions}
 use Rattle.spec_syntax.specs.Grammar.{Grammar}
 use Rattle.struct_model.specs.Structure.{Structure}
-use Rattle.struct_model.specs.Listing.{IsIn, Lists}
+use Rattle.lists.specs.Enumeration.{IsIn}
+use Rattle.struct_model.specs.Listing.{Lists}
 use Rattle.struct_model.proofs.ListingLaws.{one_listing}
 use Rattle.splits.specs.Splits.{Split}
 use Rattle.listing_laws.specs.Lister.{list_no_components, alternatives, by_splits, product}
 use Rattle.listing_laws.specs.BySize.{by_sizes}
 use Rattle.listing_laws.specs.Laws.{UnionIsListed, ListsSplits, ListsSizes, ProdIsListed, WordsAreListed}
-use Rattle.struct_model.proofs.Enumerated.{from_map}
+use Rattle.lists.proofs.Enumerated.{from_map}
 use Rattle.struct_model.proofs.AscendingLabels.{Rises}
 use Rattle.splits.proofs.SplitLaws.{splits_are}
 use Rattle.listing_laws.proofs.Arguments.{union_is}

@@ -17,7 +17,7 @@ use Rattle.spec_syntax.specs.Grammar.{Grammar}
 use Rattle.struct_model.specs.declared.tree.Form5.TheVariants as form
 use Rattle.struct_model.specs.Structure.{Structure, Eps, Atom, Named, Alt, Tup, part_list, parts_of, labels, labels_of_parts}
 use Rattle.struct_model.specs.Membership.{are_of_each, argument}
-use Rattle.struct_model.specs.Listing.{IsIn}
+use Rattle.lists.specs.Enumeration.{IsIn}
 use Rattle.well_founded.specs.Names.{name_without_rule}
 use Rattle.well_founded.specs.Nodes.{right_node}
 use Rattle.well_founded.specs.NodeView.{arguments_of}

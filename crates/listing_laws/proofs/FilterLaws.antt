@@ -7,10 +7,11 @@ use Rattle.spec_syntax.specs.Expression.{Expression}
 use Rattle.spec_syntax.specs.Grammar.{Grammar}
 use Rattle.struct_model.specs.Structure.{Structure, key}
 use Rattle.struct_model.specs.Order.{order}
-use Rattle.struct_model.specs.Listing.{IsIn, Ascends, Enumerated, Before, IsOne, Lists}
+use Rattle.lists.specs.Enumeration.{IsIn, Ascends, Enumerated}
+use Rattle.struct_model.specs.Listing.{Before, IsOne, Lists}
 use Rattle.struct_model.specs.Bounded.{Bounds, bounded, put, in_order, is_one, listing_within}
 use Rattle.struct_model.proofs.OrderLaws.{order_total, order_same}
-use Rattle.struct_model.proofs.Enumerated.{in_filter, from_filter}
+use Rattle.lists.proofs.Enumerated.{in_filter, from_filter}
 
 after_back : (s t : Structure) → order s t ≡ Greater → Before t s
 after_back s t h = order_total.antisymm t s ∙ ap ordering_reverse h

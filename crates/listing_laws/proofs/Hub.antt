@@ -10,12 +10,13 @@ use Rattle.spec_syntax.specs.Expression.{Expression, Expressions, no_expressions
 use Rattle.spec_syntax.specs.Grammar.{Grammar}
 use Rattle.struct_model.specs.Structure.{Structure, Eps, Atom}
 use Rattle.struct_model.specs.Membership.{is_supply}
-use Rattle.struct_model.specs.Listing.{IsIn, Before, IsOne, Lists}
+use Rattle.lists.specs.Enumeration.{IsIn}
+use Rattle.struct_model.specs.Listing.{Before, IsOne, Lists}
 use Rattle.well_founded.specs.Names.{name_in}
-use Rattle.struct_model.proofs.Within.{in_left, in_right}
+use Rattle.lists.proofs.Within.{in_left, in_right}
 use Rattle.listing_laws.specs.Lister.{Names, list_epsilon, list_atom, list_with, list_each, list_components, list_repeated}
-use Rattle.struct_model.proofs.Enumerated as enumerated
-use Rattle.struct_model.proofs.Enumerated.{in_flat_map}
+use Rattle.lists.proofs.Enumerated as enumerated
+use Rattle.lists.proofs.Enumerated.{in_flat_map}
 use Rattle.struct_model.proofs.SupplyLaws.{supply_rises, supply_allowed}
 use Rattle.splits.proofs.SplitSupplies.{split_supplies}
 use Rattle.listing_laws.specs.Laws.{IsNeverEmpty, ListsEach, ExpressionIsListed}

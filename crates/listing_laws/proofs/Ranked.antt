@@ -15,7 +15,7 @@ use Rattle.struct_model.specs.declared.tree.Form5.{Form5}
 use Rattle.struct_model.specs.declared.tree.Form5.TheVariants as form
 use Rattle.struct_model.specs.Structure.{Structure, Eps, Atom, Named, Alt, Tup, Structures, no_parts, more_parts, part_list, labels, labels_of_parts, size}
 use Rattle.struct_model.specs.Membership.{is_of, are_of, are_of_each, argument, names, is_epsilon, is_atom}
-use Rattle.struct_model.specs.Listing.{IsIn}
+use Rattle.lists.specs.Enumeration.{IsIn}
 use Rattle.struct_model.specs.Bounded.{Bounds, argument_count, up_to_height}
 use Rattle.well_founded.specs.Nodes.{node_at, right_node, children_of, below}
 use Rattle.well_founded.specs.NodeView.{arguments_of}

@@ -15,7 +15,8 @@ use Rattle.struct_model.specs.declared.tree.Form5.{Form5}
 use Rattle.struct_model.specs.declared.tree.Form5.TheVariants as form
 use Rattle.struct_model.specs.Structure.{Structure, Eps, Atom, Tup, Structures, no_parts, more_parts, part_list, parts_of, labels, labels_of_parts}
 use Rattle.struct_model.specs.Membership.{is_of, are_of, supply, is_supply}
-use Rattle.struct_model.specs.Listing.{IsIn, IsOne}
+use Rattle.lists.specs.Enumeration.{IsIn}
+use Rattle.struct_model.specs.Listing.{IsOne}
 use Rattle.struct_model.specs.Bounded.{bounds, bounded, listing}
 use Rattle.well_founded.specs.Nodes.{right_node}
 use Rattle.well_founded.specs.NodeView.{arguments_of}
@@ -39,7 +40,7 @@ use Rattle.listing_laws.proofs.Between.{is_empty, not_smaller, between}
 use Rattle.listing_laws.proofs.BySize.{by_splits-by_sizes}
 use Rattle.listing_laws.proofs.BuildingUp.{eps_within, atom_within}
 use Rattle.listing_laws.proofs.Components.{same_components, ListsComponents, no_components_are, by_splits_are, products_are}
-use Rattle.struct_model.proofs.Enumerated.{from_filter}
+use Rattle.lists.proofs.Enumerated.{from_filter}
 use Rattle.listing_laws.proofs.Hub.{epsilon_lists, atom_lists}
 use Rattle.listing_laws.proofs.Ranked.{child_at, element_full}
 use Rattle.listing_laws.proofs.Repeated.{some_in, ListsRepeated, sequences_are, repeated_are}

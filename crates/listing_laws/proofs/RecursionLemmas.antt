@@ -5,12 +5,12 @@ use Rattle.std.proofs.lemmas.List.{map_more, length-map, length-replicate, lengt
 use Rattle.spec_syntax.specs.Expression.{Expression, Expressions, no_expressions, more_expressions}
 use Rattle.spec_syntax.specs.Grammar.{Grammar}
 use Rattle.struct_model.specs.Structure.{Structure, Alt, labels, labels_of_parts, parts_of, size}
-use Rattle.struct_model.specs.Listing.{IsIn}
+use Rattle.lists.specs.Enumeration.{IsIn}
 use Rattle.listing_laws.specs.Lister.{alternatives, each_before}
 use Rattle.listing_laws.specs.Recursion.{listing_of_size, components_of}
 use Rattle.listing_laws.proofs.Between.{listed_size}
 use Rattle.listing_laws.proofs.CallerLemmas.{in_at, alternatives-more}
-use Rattle.struct_model.proofs.Enumerated.{from_map, from_flat_map}
+use Rattle.lists.proofs.Enumerated.{from_map, from_flat_map}
 use Rattle.listing_laws.proofs.Equations.{in_range}
 use Rattle.listing_laws.proofs.Sizes.{size_of_all}
 

@@ -13,14 +13,15 @@ use Rattle.spec_syntax.specs.Grammar.{Grammar}
 use Rattle.struct_model.specs.declared.tree.Form5.TheVariants as form
 use Rattle.struct_model.specs.Structure.{Structure, Tup, Structures, no_parts, part_list, parts_of, labels, labels_of_parts, ascending}
 use Rattle.struct_model.specs.Membership.{is_of, are_of, is_supply}
-use Rattle.struct_model.specs.Listing.{Enumerated, IsOne, Lists}
+use Rattle.lists.specs.Enumeration.{Enumerated}
+use Rattle.struct_model.specs.Listing.{IsOne, Lists}
 use Rattle.struct_model.proofs.ListingLaws.{one_listing}
 use Rattle.splits.specs.Splits.{Split, splits}
 use Rattle.splits.specs.Parts.{has_length, parts}
 use Rattle.listing_laws.specs.Lister.{sequence, by_parts, after_one, admits_some, list_empty, list_repeated}
 use Rattle.splits.specs.Laws.{PartBefore}
 use Rattle.listing_laws.specs.Laws.{IsNeverEmpty, ListsParts, SequenceIsListed}
-use Rattle.struct_model.proofs.Enumerated as enumerated
+use Rattle.lists.proofs.Enumerated as enumerated
 use Rattle.struct_model.proofs.AscendingLabels.{Rises}
 use Rattle.listing_laws.proofs.Sizes.{length-ascending, size_is}
 use Rattle.splits.proofs.SplitLaws.{MakesUp, splits_are}

@@ -18,7 +18,7 @@ use Rattle.struct_model.specs.Listing.{Before, IsOne, Lists}
 use Rattle.well_founded.proofs.LeastLaws.{held, names_from}
 use Rattle.listing_laws.specs.Lister.{named}
 use Rattle.listing_laws.proofs.Containers.{no_list}
-use Rattle.struct_model.proofs.Enumerated as enumerated
+use Rattle.lists.proofs.Enumerated as enumerated
 use Rattle.listing_laws.proofs.OrderFacts.{before_by_key, before_within}
 
 -- ---- what a rule makes of structures keeps their order

@@ -20,7 +20,7 @@ use Rattle.struct_model.specs.declared.tree.Form5.TheVariants as form
 use Rattle.struct_model.specs.Structure.{Structure, Eps, Atom, Named, Alt, Tup, Structures, no_parts, more_parts, part_list, labels, labels_of_parts, size, ascending}
 use Rattle.struct_model.specs.Order.{form_rank, key_order, order_within, order_of_parts, order, is_sorted, is_strictly_sorted, is_least_rotation}
 use Rattle.struct_model.specs.Membership.{is_of, are_of, are_of_each, argument, names, is_epsilon, is_atom}
-use Rattle.struct_model.specs.Listing.{IsIn}
+use Rattle.lists.specs.Enumeration.{IsIn}
 use Rattle.struct_model.proofs.KeyOrder.{is_same}
 use Rattle.well_founded.specs.Sets.{with_sets, all_with_sets, reading_sets}
 use Rattle.well_founded.specs.Sizes.{IsOf}
@@ -30,7 +30,7 @@ use Rattle.well_founded.proofs.SetsLaws.{symbol_reading, right_reading, argument
 use Rattle.well_founded.proofs.LeastLaws.{held, HasRule, rule_of, names_from}
 use Rattle.listing_laws.specs.Laws.{IsNeverEmpty}
 use Rattle.listing_laws.proofs.Containers.{parts_pass, list_is, no_list, no_product}
-use Rattle.struct_model.proofs.Enumerated.{in_map}
+use Rattle.lists.proofs.Enumerated.{in_map}
 use Rattle.listing_laws.proofs.OrderKept.{EachOne, sorted_kept, least_rotation_kept}
 
 abbrev pub set_form : Form5 → Form5

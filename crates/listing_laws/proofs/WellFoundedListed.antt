@@ -8,7 +8,8 @@ use Rattle.spec_syntax.specs.Expression.{Expression, expressions_of}
 use Rattle.spec_syntax.specs.Rules.{all_nodes}
 use Rattle.spec_syntax.specs.Grammar.{Grammar}
 use Rattle.struct_model.specs.Structure.{Structure, labels, size, key}
-use Rattle.struct_model.specs.Listing.{IsIn, IsOne, Lists}
+use Rattle.lists.specs.Enumeration.{IsIn}
+use Rattle.struct_model.specs.Listing.{IsOne, Lists}
 use Rattle.struct_model.specs.Bounded.{bounds, bounded, greatest, argument_count, most_arguments, listing, up_to_height}
 use Rattle.struct_model.proofs.ListingLaws.{one_listing}
 use Rattle.well_founded.specs.WellFounded.{HoldsNull, OfNone}

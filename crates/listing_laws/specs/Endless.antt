@@ -3,7 +3,7 @@ use Rattle.std.specs.Prelude.{◌≡◌, ℕ, List, length, IsTrue}
 use Rattle.spec_syntax.specs.Grammar.{Grammar}
 use Rattle.struct_model.specs.Structure.{Structure}
 use Rattle.struct_model.specs.Membership.{is_member}
-use Rattle.struct_model.specs.Listing.{IsIn, Ascends}
+use Rattle.lists.specs.Enumeration.{IsIn, Ascends}
 use Rattle.well_founded.specs.Sets.{reading_sets}
 
 abbrev pub Differ : Structure → Structure → Type 0

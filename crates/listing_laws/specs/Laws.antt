@@ -10,7 +10,8 @@ use Rattle.spec_syntax.specs.Rules.{symbol, right_side, all_nodes, is_spec, are_
 use Rattle.spec_syntax.specs.Grammar.{Grammar}
 use Rattle.struct_model.specs.Structure.{Structure, size}
 use Rattle.struct_model.specs.Membership.{is_of, supply, is_supply}
-use Rattle.struct_model.specs.Listing.{IsIn, Lists}
+use Rattle.lists.specs.Enumeration.{IsIn}
+use Rattle.struct_model.specs.Listing.{Lists}
 use Rattle.struct_model.specs.Bounded.{listing}
 use Rattle.well_founded.specs.declared.refused.Refused.TheVariants.{Endless}
 use Rattle.well_founded.specs.Sizes.{no_least, IsLeast}

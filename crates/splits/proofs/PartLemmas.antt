@@ -3,8 +3,8 @@ use Rattle.std.proofs.Common.{◌≡◌, ◌⊎◌, ℕ, ◌≤◌, Bool, true, 
 use Rattle.std.specs.Cmp.Lexicographic.{slice_cmp}
 use Rattle.std.proofs.lemmas.Bool.{and_parts, and_from, leb-true, le-leb, cond-true, cond-false, cases_Bool, false_from_ne_true, not_from_false, not_from_true}
 use Rattle.struct_model.specs.Membership.{ascends_above}
-use Rattle.struct_model.specs.Listing.{IsIn, Ascends}
-use Rattle.struct_model.proofs.Enumerated.{in_map, from_map, in_filter, from_filter, filtered}
+use Rattle.lists.specs.Enumeration.{IsIn, Ascends}
+use Rattle.lists.proofs.Enumerated.{in_map, from_map, in_filter, from_filter, filtered}
 use Rattle.struct_model.proofs.AscendingLabels.{Rises}
 use Rattle.splits.specs.Splits.{Split, splits}
 use Rattle.splits.specs.Parts.{has_length, parts, comes_before, after, from_part, IsPart}

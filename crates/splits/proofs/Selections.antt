@@ -3,9 +3,9 @@ use Rattle.std.proofs.Common.{◌≡◌, ◌⊎◌, ℕ, zero, suc, ◌<◌, ◌
 use Rattle.std.specs.Cmp.Lexicographic.{slice_cmp}
 use Rattle.std.proofs.lemmas.Bool.{and_parts, ltb-true, lt-ltb, eq-eqb, ne_eqb, cond-true, cond-false}
 use Rattle.struct_model.specs.Membership.{ascends_above}
-use Rattle.struct_model.specs.Listing.{IsIn}
-use Rattle.struct_model.proofs.Within.{in_left, in_right}
-use Rattle.struct_model.proofs.Enumerated.{in_map, in_filter}
+use Rattle.lists.specs.Enumeration.{IsIn}
+use Rattle.lists.proofs.Within.{in_left, in_right}
+use Rattle.lists.proofs.Enumerated.{in_map, in_filter}
 use Rattle.splits.specs.Splits.{Split, taking, leaving, begins_above, splits}
 use Rattle.splits.proofs.SplitSupplies.{split_cases}
 use Rattle.splits.proofs.PartOrder.{from_first}

@@ -4,11 +4,11 @@ use Rattle.std.specs.Cmp.Lexicographic.{slice_cmp}
 use Rattle.std.proofs.lemmas.Bool.{cases_lt, cases_order}
 use Rattle.std.proofs.lemmas.Bool.Decides.{nat_tests}
 use Rattle.struct_model.specs.Structure.{inserted, ascending}
-use Rattle.struct_model.specs.Listing.{Enumerated}
+use Rattle.lists.specs.Enumeration.{Enumerated}
 use Rattle.splits.specs.Splits.{Split, taking, leaving, begins_above, splits}
 use Rattle.splits.specs.Laws.{PartBefore}
 use Rattle.splits.proofs.PartOrder.{same_first, lesser_first}
-use Rattle.struct_model.proofs.Enumerated as enumerated
+use Rattle.lists.proofs.Enumerated as enumerated
 use Rattle.struct_model.proofs.AscendingLabels.{From, AtLeast, Rises, lower, each_append, each_left, each_right, each_ascending, from_ascending, ascending_same, inserted_first, inserted_later, inserted_least, ascending_middle}
 
 -- the two lists ascend and together they are the supply

@@ -5,9 +5,9 @@ use Rattle.std.proofs.lemmas.Bool.{and_parts, and_from, ltb-true, lt-ltb}
 use Rattle.spec_syntax.specs.declared.statement.Universe.{Universe}
 use Rattle.spec_syntax.specs.declared.statement.Universe.TheVariants.{Labelled, Unlabelled}
 use Rattle.struct_model.specs.Membership.{is_supply, ascends_above}
-use Rattle.struct_model.specs.Listing.{IsIn}
-use Rattle.struct_model.proofs.Within.{in_either}
-use Rattle.struct_model.proofs.Enumerated.{from_map, from_filter}
+use Rattle.lists.specs.Enumeration.{IsIn}
+use Rattle.lists.proofs.Within.{in_either}
+use Rattle.lists.proofs.Enumerated.{from_map, from_filter}
 use Rattle.struct_model.proofs.SupplyLaws.{zeros_rise, rises_above}
 use Rattle.splits.specs.Splits.{Split, taking, leaving, begins_above, splits}
 use Rattle.splits.proofs.SplitLaws.{MakesUp, splits_are}

@@ -1,5 +1,5 @@
 -- The splits of a supply, and those whose part has a length within bounds, are listed.
-use Rattle.struct_model.proofs.Enumerated as enumerated
+use Rattle.lists.proofs.Enumerated as enumerated
 use Rattle.struct_model.proofs.AscendingLabels.{Rises}
 use Rattle.struct_model.proofs.SupplyLaws.{supply_rises}
 use Rattle.splits.specs.Splits.{splits}

@@ -6,7 +6,7 @@ use Rattle.struct_model.specs.declared.supplies.Supply.{Supply}
 use Rattle.struct_model.specs.declared.supplies.Supply.TheVariants.{Zeros, Labels}
 use Rattle.struct_model.specs.SupplyView.{supply_labels, supply_universe, is_in_order}
 use Rattle.struct_model.specs.Membership.{ascends_above}
-use Rattle.struct_model.specs.Listing.{IsIn}
+use Rattle.lists.specs.Enumeration.{IsIn}
 use Rattle.struct_model.proofs.AscendingLabels.{Rises}
 use Rattle.struct_model.proofs.SupplyLaws.{in_order_is, supply_rises, rises_above}
 use Rattle.splits.specs.Splits.{Split, splits}

@@ -3,9 +3,9 @@ use Rattle.std.proofs.Common.{◌≡◌, ◌⊎◌, ℕ, zero, suc, ◌+◌, ◌
 use Rattle.std.specs.Cmp.Lexicographic.{slice_cmp}
 use Rattle.std.proofs.lemmas.List.{length-replicate}
 use Rattle.struct_model.specs.Membership.{ascends_above}
-use Rattle.struct_model.specs.Listing.{IsIn}
-use Rattle.struct_model.proofs.Within.{in_left}
-use Rattle.struct_model.proofs.Enumerated.{in_map}
+use Rattle.lists.specs.Enumeration.{IsIn}
+use Rattle.lists.proofs.Within.{in_left}
+use Rattle.lists.proofs.Enumerated.{in_map}
 use Rattle.splits.specs.Splits.{taking, splits}
 use Rattle.splits.proofs.PartOrder.{same_first}
 use Rattle.splits.proofs.Selections.{Selects, selects_length, selects_above}

@@ -6,7 +6,7 @@ use Rattle.std.specs.Cmp.Lexicographic.{slice_cmp}
 use Rattle.spec_syntax.specs.declared.statement.Universe.{Universe}
 use Rattle.struct_model.specs.Structure.{ascending}
 use Rattle.struct_model.specs.Membership.{is_supply}
-use Rattle.struct_model.specs.Listing.{Enumerated}
+use Rattle.lists.specs.Enumeration.{Enumerated}
 use Rattle.splits.specs.Splits.{Split, splits}
 use Rattle.splits.specs.Parts.{has_length, parts}
 

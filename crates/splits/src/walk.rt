@@ -1,7 +1,7 @@
 //! A walk over the parts of a supply.
 ghost use Rattle.std.specs.Prelude.{◌≡◌, [], ◌∷◌, IfOk, OnErr, IfSome, IfNone, IsTrue};
 ghost use Rattle.struct_model.specs.SupplyView.{supply_labels, supply_universe, is_in_order};
-ghost use Rattle.struct_model.specs.Listing.{IsIn};
+ghost use Rattle.lists.specs.Enumeration.{IsIn};
 ghost use Rattle.splits.specs.Splits.{splits};
 ghost use Rattle.splits.specs.Parts.{parts, after, IsPart};
 ghost use Rattle.splits.specs.WalkView.{given_labels, split_into, to_come, IsToCome};

@@ -7,7 +7,5 @@ pub mod KeyOrder
 pub mod PartsOrder
 pub mod OrderLaws
 pub mod ListingLaws
-pub mod Within
-pub mod Enumerated
 pub mod AscendingLabels
 pub mod SupplyLaws

@@ -1,6 +1,7 @@
 -- There is one list of the elements with a property in a strict order.
 use Rattle.std.proofs.Common.{◌≡◌, inl, inr, List, [], ◌∷◌, refl, sym, ◌∙◌, subst}
-use Rattle.struct_model.specs.Listing.{IsIn, Ascends, Enumerated, IsOne}
+use Rattle.lists.specs.Enumeration.{IsIn, Ascends, Enumerated}
+use Rattle.struct_model.specs.Listing.{IsOne}
 use Rattle.struct_model.specs.Laws.{IsStrictTotalOrder, HasOneListing}
 use Rattle.struct_model.proofs.OrderLaws.{order_strict}
 

@@ -8,14 +8,14 @@ use Rattle.spec_syntax.specs.Expression as expr
 use Rattle.spec_syntax.specs.Expression.{Expression, preorder}
 use Rattle.spec_syntax.specs.Rules.{Rules, symbol, is_same_name}
 use Rattle.spec_syntax.specs.Grammar.{Grammar}
-use Rattle.struct_model.specs.Listing.{IsIn}
+use Rattle.lists.specs.Enumeration.{IsIn}
 use Rattle.well_founded.specs.declared.refused.Refused.{Refused}
 use Rattle.well_founded.specs.declared.refused.Refused.TheVariants.{Undefined, CycleUnlabelled, Unproductive, NullElement, Endless}
 use Rattle.well_founded.specs.Names.{undefined_name, symbol_without_rule, name_without_rule}
 use Rattle.well_founded.specs.Sizes.{IsProductive, IsLeast}
 use Rattle.well_founded.specs.Least.{IsSize, least_with, size_of_name}
 use Rattle.well_founded.specs.Nodes.{right_node}
-use Rattle.well_founded.specs.Graph.{Graph, Leads, Reaches}
+use Rattle.graphs.specs.Graph.{Graph, Leads, Reaches}
 use Rattle.well_founded.specs.SameSize.{is_null, same_size_graph}
 use Rattle.well_founded.specs.Containers.{is_not_over_null, is_without_null}
 use Rattle.well_founded.specs.WellFounded.{may_hold_cycles, HasNullElement, HoldsItself, HoldsCycle, HasNoStructure, HoldsNull, IsEndless, OfNone, IsFirst, IsEachProductive, Checks}
@@ -24,7 +24,7 @@ use Rattle.well_founded.proofs.NodesLaws.{passes}
 use Rattle.well_founded.proofs.CyclesLaws.{name_allowed, inside_allowed, rule_allowed, one_fails}
 use Rattle.well_founded.proofs.SameSizeLaws.{null_size, from_null}
 use Rattle.well_founded.proofs.LeastRounds.{sizes_exist}
-use Rattle.well_founded.proofs.GraphLaws.{marks_exist}
+use Rattle.graphs.proofs.Reached.{marks_exist}
 use Rattle.well_founded.proofs.EndlessLaws.{endless_is}
 use Rattle.well_founded.proofs.RankLaws.{is_graph}
 use Rattle.well_founded.proofs.CheckLaws.{first_or_none, first_in, one_check}

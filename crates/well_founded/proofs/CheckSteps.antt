@@ -15,14 +15,14 @@ use Rattle.spec_syntax.specs.Expression.{Expression}
 use Rattle.spec_syntax.specs.Rules.{Rules, symbol, rule_name, is_same_name, are_names_distinct, is_spec, all_nodes}
 use Rattle.spec_syntax.specs.Grammar.{Grammar}
 use Rattle.spec_syntax.proofs.RulesLemmas.{distinct-from_spec, all_nodes-from_spec, symbol-within}
-use Rattle.struct_model.specs.Listing.{IsIn}
+use Rattle.lists.specs.Enumeration.{IsIn}
 use Rattle.well_founded.specs.declared.refused.Refused.TheVariants.{CycleUnlabelled, Unproductive, NullElement, Endless}
 use Rattle.well_founded.specs.Names.{name_without_rule, undefined_name}
 use Rattle.well_founded.specs.Sizes.{IsProductive, IsLeast, no_least}
 use Rattle.well_founded.specs.Least.{IsSize, AreSizes, least_with, size_of_name, least_by, leasts_of}
 use Rattle.well_founded.specs.Nodes.{node_at, right_node}
 use Rattle.well_founded.specs.NodeTable.{right_nodes_from}
-use Rattle.well_founded.specs.Graph.{Graph, Leads, IsGraph, AreCounts}
+use Rattle.graphs.specs.Graph.{Graph, Leads, IsGraph, AreCounts}
 use Rattle.well_founded.specs.SameSize.{same_size_graph}
 use Rattle.well_founded.specs.Containers.{is_allowed, is_without_null}
 use Rattle.well_founded.specs.Search.{IsFirstRound, IsNoRound}

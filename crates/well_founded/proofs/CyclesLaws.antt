@@ -11,10 +11,10 @@ use Rattle.spec_syntax.specs.Expression.{Expression, Expressions, no_expressions
 use Rattle.spec_syntax.specs.Rules.{right_side}
 use Rattle.spec_syntax.specs.Grammar.{Grammar}
 use Rattle.struct_model.specs.Membership.{is_labelled}
-use Rattle.struct_model.specs.Listing.{IsIn}
+use Rattle.lists.specs.Enumeration.{IsIn}
 use Rattle.well_founded.specs.WellFounded.{is_no_cycle, may_hold_cycles, HoldsCycle, OfNone}
 use Rattle.well_founded.specs.Nodes.{node_at, right_node}
-use Rattle.struct_model.proofs.Within.{in_either}
+use Rattle.lists.proofs.Within.{in_either}
 use Rattle.well_founded.proofs.NodesLaws.{node_stands, all_pass, all_of_rules, right_node_is}
 
 -- ---- parts

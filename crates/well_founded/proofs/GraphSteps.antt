@@ -3,9 +3,9 @@ use Rattle.std.proofs.Common.{◌≡◌, ◌⊎◌, ℕ, zero, suc, ◌+◌, ◌
 use Rattle.std.proofs.Math.ListN.{set}
 use Rattle.std.proofs.lemmas.List.{take_all}
 use Rattle.std.proofs.lemmas.Option.{slice_get-get_or}
-use Rattle.struct_model.specs.Listing.{IsIn}
-use Rattle.well_founded.specs.Graph.{Graph, next, IsGraph, IsMarked, IsUnmarked, count_true, IsNew, IsClosed, IsBehindMarked}
-use Rattle.well_founded.proofs.GraphLaws.{next_at, IsSound, count_more, count_below, ClosedBelow, marked_within}
+use Rattle.lists.specs.Enumeration.{IsIn}
+use Rattle.graphs.specs.Graph.{Graph, next, IsGraph, IsMarked, IsUnmarked, count_true, IsNew, IsClosed, IsBehindMarked}
+use Rattle.graphs.proofs.Reached.{next_at, IsSound, count_more, count_below, ClosedBelow, marked_within}
 
 is_in_more : (xs : List ℕ) (i j d : ℕ) → i < length xs → IsIn j (take (suc i) xs) → IsIn j (take i xs) ⊎ (j ≡ get_or xs i d)
 is_in_more [] i j d within at = absurd (omega arith)

@@ -8,8 +8,6 @@ pub mod LeastLaws
 pub mod LeastReached
 pub mod LeastRounds
 pub mod LeastLoops
-pub mod GraphLaws
-pub mod GraphCounts
 pub mod GraphSteps
 pub mod SameSizeLaws
 pub mod SameSizeSteps

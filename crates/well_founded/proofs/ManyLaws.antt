@@ -14,7 +14,7 @@ use Rattle.struct_model.specs.declared.tree.Form5.{Form5}
 use Rattle.struct_model.specs.declared.tree.Form5.TheVariants as form
 use Rattle.struct_model.specs.Structure.{Structure, Tup, Structures, no_parts, more_parts, part_list}
 use Rattle.struct_model.specs.Order.{list_order, is_after, is_sorted, rotated, is_least_of, is_least_rotation}
-use Rattle.struct_model.specs.Listing.{IsIn}
+use Rattle.lists.specs.Enumeration.{IsIn}
 use Rattle.struct_model.specs.Membership.{is_of, are_of}
 use Rattle.struct_model.proofs.OrderLaws.{order_equal, list_order_equal}
 use Rattle.well_founded.specs.Sets.{with_sets, reading_sets}

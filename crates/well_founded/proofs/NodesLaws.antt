@@ -7,8 +7,8 @@ use Rattle.std.proofs.lemmas.Option.{slice_get_within}
 use Rattle.spec_syntax.specs.Expression as expr
 use Rattle.spec_syntax.specs.Expression.{Expression, Expressions, no_expressions, more_expressions, expression_list, preorder, preorder_of_all, nodes}
 use Rattle.spec_syntax.specs.Rules.{Rules, is_same_name, symbol, right_side, all_nodes}
-use Rattle.struct_model.specs.Listing.{IsIn}
-use Rattle.struct_model.proofs.Enumerated.{in_flat_map, from_flat_map}
+use Rattle.lists.specs.Enumeration.{IsIn}
+use Rattle.lists.proofs.Enumerated.{in_flat_map, from_flat_map}
 use Rattle.well_founded.specs.Names.{name_in, used_names, names_used_in, has_rule, name_without_rule}
 use Rattle.well_founded.specs.Nodes.{node_at, right_node, places_from, children_of, below}
 use Rattle.well_founded.specs.NodeView.{arguments_of}

@@ -8,17 +8,17 @@ use Rattle.spec_syntax.specs.Expression as expr
 use Rattle.spec_syntax.specs.Expression.{Expression}
 use Rattle.spec_syntax.specs.Rules.{Rules, is_same_name, symbol, all_nodes}
 use Rattle.spec_syntax.specs.Grammar.{Grammar}
-use Rattle.struct_model.specs.Listing.{IsIn}
+use Rattle.lists.specs.Enumeration.{IsIn}
 use Rattle.well_founded.specs.Least.{IsSize, least_with, size_of_name}
 use Rattle.well_founded.specs.WellFounded.{may_hold_cycles, HoldsCycle, HoldsNull, OfNone, IsEndless, IsEachProductive, IsWellFounded}
 use Rattle.well_founded.specs.Nodes.{node_at, right_node, below}
 use Rattle.well_founded.specs.Rank.{CanFill, AreRanks}
-use Rattle.well_founded.specs.Graph.{Graph, next, LeadsBy, Leads, IsGraph, count_true, IsCount, AreCounts}
+use Rattle.graphs.specs.Graph.{Graph, next, LeadsBy, Leads, IsGraph, count_true, IsCount, AreCounts}
 use Rattle.well_founded.specs.SameSize.{followers_from, same_size_graph}
 use Rattle.well_founded.proofs.CyclesLaws.{node_allowed}
 use Rattle.well_founded.proofs.NodesLaws.{in_of_get, found_rule}
-use Rattle.well_founded.proofs.GraphLaws.{step_leads, leads_trans}
-use Rattle.well_founded.proofs.GraphCounts.{count_falls, count_within, counts_exist}
+use Rattle.graphs.proofs.Reached.{step_leads, leads_trans}
+use Rattle.graphs.proofs.Counts.{count_falls, count_within, counts_exist}
 use Rattle.well_founded.proofs.SameSizeLaws.{fills}
 use Rattle.well_founded.proofs.SameSizeSteps.{IsStep, from_step, step_at}
 use Rattle.well_founded.proofs.SameSizeRoots.{child_within}

@@ -7,7 +7,7 @@ use Rattle.std.proofs.lemmas.Bool.{cases_lt}
 use Rattle.spec_syntax.specs.Expression as expr
 use Rattle.spec_syntax.specs.Expression.{Expression, preorder, nodes, expressions_of, expression_list}
 use Rattle.spec_syntax.specs.Rules.{Rules, symbol, right_side, all_nodes}
-use Rattle.well_founded.specs.Graph.{Graph}
+use Rattle.graphs.specs.Graph.{Graph}
 use Rattle.well_founded.specs.Nodes.{right_node}
 use Rattle.well_founded.specs.NodeTable.{right_nodes_from}
 use Rattle.well_founded.specs.SameSize.{is_null, alone_from, is_told_inside, picked, followers, followers_from}

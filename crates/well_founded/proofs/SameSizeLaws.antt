@@ -14,7 +14,7 @@ use Rattle.spec_syntax.specs.declared.expr.Card.{Card}
 use Rattle.spec_syntax.specs.Card.{admits}
 use Rattle.struct_model.specs.declared.tree.Form5.TheVariants as form
 use Rattle.struct_model.specs.Structure.{Structure, Eps, Atom, Named, Alt, Tup, Structures, no_parts, more_parts, part_list, labels, labels_of_parts, size}
-use Rattle.struct_model.specs.Listing.{IsIn}
+use Rattle.lists.specs.Enumeration.{IsIn}
 use Rattle.struct_model.specs.Membership.{is_of, are_of, are_of_each, argument}
 use Rattle.well_founded.specs.Sets.{with_sets, all_with_sets, reading_sets}
 use Rattle.well_founded.specs.Sizes.{IsOf, IsLeast}

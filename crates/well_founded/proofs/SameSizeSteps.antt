@@ -5,10 +5,10 @@ use Rattle.std.proofs.lemmas.Option.{same_Some}
 use Rattle.spec_syntax.specs.Expression as expr
 use Rattle.spec_syntax.specs.Expression.{Expression, Expressions, no_expressions, more_expressions, expression_list, nodes}
 use Rattle.spec_syntax.specs.Rules.{Rules, symbol, right_side, all_nodes}
-use Rattle.struct_model.specs.Listing.{IsIn}
+use Rattle.lists.specs.Enumeration.{IsIn}
 use Rattle.well_founded.specs.Nodes.{node_at, right_node, places_from, children_of, below}
 use Rattle.well_founded.specs.NodeView.{arguments_of}
-use Rattle.well_founded.specs.Graph.{Graph, next}
+use Rattle.graphs.specs.Graph.{Graph, next}
 use Rattle.well_founded.specs.SameSize.{fillable, picked, followers, followers_from, same_size_graph}
 use Rattle.well_founded.proofs.NodesLaws.{node_stands, stands_at, child_stands, right_node_is, symbol_right}
 use Rattle.well_founded.proofs.SameSizeLaws.{inner}

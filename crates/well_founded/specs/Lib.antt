@@ -7,7 +7,6 @@ pub mod Nodes
 pub mod Rank
 pub mod Checked
 pub mod Least
-pub mod Graph
 pub mod Laws
 pub mod SameSize
 pub mod Containers

@@ -5,7 +5,7 @@ use Rattle.spec_syntax.specs.Rules.{all_nodes}
 use Rattle.spec_syntax.specs.Grammar.{Grammar}
 use Rattle.struct_model.specs.declared.tree.Form5.TheVariants as form
 use Rattle.struct_model.specs.Structure.{Structure, Named, Alt, Tup, part_list, size}
-use Rattle.struct_model.specs.Listing.{IsIn}
+use Rattle.lists.specs.Enumeration.{IsIn}
 use Rattle.well_founded.specs.Sizes.{IsOf}
 use Rattle.well_founded.specs.Nodes.{node_at, below}
 

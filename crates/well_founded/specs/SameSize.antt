@@ -8,7 +8,7 @@ use Rattle.spec_syntax.specs.Expression.{Expression, Expressions, no_expressions
 use Rattle.spec_syntax.specs.Rules.{Rules, symbol, right_side, all_nodes}
 use Rattle.struct_model.specs.Membership.{is_epsilon, is_atom}
 use Rattle.well_founded.specs.Nodes.{below}
-use Rattle.well_founded.specs.Graph.{Graph}
+use Rattle.graphs.specs.Graph.{Graph}
 
 -- is the least size 0
 abbrev pub is_null : Option ℕ → Bool

@@ -1,6 +1,6 @@
 -- Which rule a search by number stops at.
 use Rattle.std.specs.Prelude.{◌≡◌, ℕ, ◌<◌, List, slice_get, Some}
-use Rattle.well_founded.specs.Graph.{Graph, Leads}
+use Rattle.graphs.specs.Graph.{Graph, Leads}
 
 -- the first of the nodes that lead to themselves stands at this place, from 0
 pub record IsFirstRound (graph : Graph) (roots : List ℕ) (place : ℕ) : Type 0 where

@@ -9,7 +9,7 @@ use Rattle.spec_syntax.specs.Rules.{Rules}
 use Rattle.spec_syntax.specs.Grammar.{Grammar}
 use Rattle.struct_model.specs.Structure.{Structure, size}
 use Rattle.struct_model.specs.Membership.{is_labelled}
-use Rattle.struct_model.specs.Listing.{IsIn}
+use Rattle.lists.specs.Enumeration.{IsIn}
 use Rattle.well_founded.specs.declared.refused.Refused.{Refused}
 use Rattle.well_founded.specs.declared.refused.Refused.TheVariants.{Undefined, CycleUnlabelled, Unproductive, NullElement, Endless, Memory}
 use Rattle.well_founded.specs.Names.{undefined_name}

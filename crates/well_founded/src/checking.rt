@@ -6,7 +6,7 @@ ghost use Rattle.well_founded.specs.Names.{undefined_name, name_without_rule};
 ghost use Rattle.well_founded.specs.Least.{AreSizes, IsSmall, least_with, size_of_name};
 ghost use Rattle.well_founded.specs.NodeTable.{right_nodes_from};
 ghost use Rattle.well_founded.specs.SameSize.{same_size_graph};
-ghost use Rattle.well_founded.specs.Graph.{IsGraph};
+ghost use Rattle.graphs.specs.Graph.{IsGraph};
 ghost use Rattle.well_founded.specs.WellFounded.{HoldsCycle, HoldsNull, OfNone, IsWellFounded, IsCulprit, Checks};
 ghost use Rattle.well_founded.specs.Search.{IsFirstRound, IsNoRound};
 

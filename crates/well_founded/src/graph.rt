@@ -1,7 +1,7 @@
 //! What one gets to in a graph whose nodes are the numbers from 0.
 ghost use Rattle.std.specs.Prelude.{◌≡◌, ℕ, ◌<◌, ◌≤◌, None, length, IfSome, IfOk, IsTrue};
-ghost use Rattle.struct_model.specs.Listing.{IsIn};
-ghost use Rattle.well_founded.specs.Graph.{next, Leads, IsGraph, Reaches, IsMarked, IsUnmarked, IsNew, IsClosed, IsBehindMarked, AreCounts, count_true};
+ghost use Rattle.lists.specs.Enumeration.{IsIn};
+ghost use Rattle.graphs.specs.Graph.{next, Leads, IsGraph, Reaches, IsMarked, IsUnmarked, IsNew, IsClosed, IsBehindMarked, AreCounts, count_true};
 
 use seq::Seq;
 use std::alloc::{AllocError, Global};

@@ -4,7 +4,7 @@ use Rattle.spec_syntax.specs.Rules.{Rules, all_nodes}
 use Rattle.well_founded.specs.Least.{least_with, size_of_name}
 use Rattle.well_founded.specs.NodeTable.{right_nodes_from}
 use Rattle.well_founded.specs.SameSize.{same_size_graph}
-use Rattle.well_founded.specs.Graph.{Graph, IsGraph, AreCounts}
+use Rattle.graphs.specs.Graph.{Graph, IsGraph, AreCounts}
 use Rattle.well_founded.specs.Search.{IsFirstRound, IsNoRound}
 use Rattle.well_founded.specs.Checked.{IsChecked}
 use Rattle.well_founded.proofs.CheckSteps.{graph_is, graph_few, graph_nodes, few_rules, found_by, none_by, roots_within, round_within, endless_said, is_checked}

@@ -1,5 +1,5 @@
 use Rattle.std.proofs.Common.{◌≡◌, ℕ, ◌<◌, Some, slice_get}
-use Rattle.well_founded.specs.Graph.{Leads}
+use Rattle.graphs.specs.Graph.{Leads}
 use Rattle.well_founded.proofs.checking.first_round.Given as goal
 
 abbrev pub invariant-loop-place : goal.invariant-loop-place

@@ -1,6 +1,6 @@
 use Rattle.std.proofs.Common.{◌<◌, length, true, false, ◌∙◌, sym, arith}
 use Rattle.std.proofs.lemmas.Option.{IfSome_then}
-use Rattle.well_founded.proofs.GraphLaws.{closed_more}
+use Rattle.graphs.proofs.Reached.{closed_more}
 use Rattle.well_founded.proofs.GraphSteps.{mark_read, graph_read, next_within, is_in_next, begins_marked, behind_all, none_from, mark_or_none}
 use Rattle.well_founded.proofs.graph.behind_marked.Goals as goal
 use Rattle.well_founded.proofs.graph.behind_marked.Goals.{then-marks-i+else-is_some, else-marks-i}

@@ -1,4 +1,4 @@
-use Rattle.well_founded.proofs.GraphLaws.{ClosedBelow}
+use Rattle.graphs.proofs.Reached.{ClosedBelow}
 use Rattle.well_founded.proofs.graph.behind_marked.Given as goal
 
 abbrev pub invariant-loop-i : goal.invariant-loop-i

@@ -1,4 +1,4 @@
-use Rattle.well_founded.proofs.GraphCounts.{CountsSo}
+use Rattle.graphs.proofs.Counts.{CountsSo}
 use Rattle.well_founded.proofs.graph.ranks.Given as goal
 
 abbrev pub invariant-loop-i : goal.invariant-loop-i

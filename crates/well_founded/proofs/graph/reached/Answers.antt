@@ -1,4 +1,4 @@
-use Rattle.well_founded.proofs.GraphLaws.{sound_more, reaches_closed}
+use Rattle.graphs.proofs.Reached.{sound_more, reaches_closed}
 use Rattle.well_founded.proofs.GraphSteps.{room_falls, new_at, closed_at}
 use Rattle.well_founded.proofs.graph.reached.Goals as goal
 

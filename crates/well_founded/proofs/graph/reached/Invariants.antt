@@ -1,6 +1,6 @@
 use Rattle.std.proofs.Common.{◌-◌, length}
-use Rattle.well_founded.specs.Graph.{count_true}
-use Rattle.well_founded.proofs.GraphLaws.{IsSound}
+use Rattle.graphs.specs.Graph.{count_true}
+use Rattle.graphs.proofs.Reached.{IsSound}
 use Rattle.well_founded.proofs.graph.reached.Given as goal
 
 abbrev pub invariant-loop-node : goal.invariant-loop-node

@@ -1,6 +1,6 @@
 -- Elements of two lists one after the other.
 use Rattle.std.proofs.Common.{◌⊎◌, List, [], ◌∷◌, ◌++◌, inl, inr}
-use Rattle.struct_model.specs.Listing.{IsIn}
+use Rattle.lists.specs.Enumeration.{IsIn}
 
 module _ {X : Type 0} where
   pub in_left : (x : X) (xs ys : List X) → IsIn x xs → IsIn x (xs ++ ys)

@@ -2,8 +2,8 @@
 use Rattle.std.specs.Prelude.{◌≡◌, ◌⊎◌, Bool, true, false, List, [], ◌∷◌, ◌++◌, map, refl}
 use Rattle.std.specs.List.{flat_map, filter}
 use Rattle.std.proofs.Common.{ap, ◌∙◌, sym, subst, cond, inl, inr, true≢false}
-use Rattle.struct_model.specs.Listing.{IsIn, Ascends, Enumerated}
-use Rattle.struct_model.proofs.Within.{in_left, in_right, in_either}
+use Rattle.lists.specs.Enumeration.{IsIn, Ascends, Enumerated}
+use Rattle.lists.proofs.Within.{in_left, in_right, in_either}
 
 module _ {X : Type 0} where
   pub ascends_append : (R : X → X → Type 0) (xs ys : List X) → Ascends R xs → Ascends R ys

@@ -1,6 +1,6 @@
 -- Graphs whose nodes are the numbers from 0: for each node those that follow it.
 use Rattle.std.specs.Prelude.{◌≡◌, ◌⊎◌, ℕ, zero, suc, ◌<◌, Bool, true, false, List, [], length, slice_get, unwrap_or, count_by, Some}
-use Rattle.struct_model.specs.Listing.{IsIn}
+use Rattle.lists.specs.Enumeration.{IsIn}
 
 abbrev pub Graph : Type 0
 Graph = List (List ℕ)

@@ -5,8 +5,8 @@ use Rattle.std.proofs.lemmas.List.{length-set, length-replicate}
 use Rattle.std.proofs.lemmas.Bool.{cases_lt}
 use Rattle.std.proofs.lemmas.List.Sums.{count_by-le-length, sum_by-cons}
 use Rattle.std.proofs.lemmas.Option.{slice_get_within}
-use Rattle.struct_model.specs.Listing.{IsIn}
-use Rattle.well_founded.specs.Graph.{Graph, next, LeadsBy, Leads, IsGraph, IsMarked, IsUnmarked, Reaches, count_true, IsNew, IsClosed}
+use Rattle.lists.specs.Enumeration.{IsIn}
+use Rattle.graphs.specs.Graph.{Graph, next, LeadsBy, Leads, IsGraph, IsMarked, IsUnmarked, Reaches, count_true, IsNew, IsClosed}
 
 pub next_at : (graph : Graph) (i : ℕ) (nodes : List ℕ) → slice_get graph i ≡ Some nodes → next graph i ≡ nodes
 next_at graph i nodes at = ap (λ (found : Option (List ℕ)). unwrap_or found []) at

@@ -2,8 +2,8 @@
 use Rattle.std.proofs.Common.{◌≡◌, ◌⊎◌, ℕ, zero, suc, ◌+◌, ◌<◌, ◌≤◌, Bool, true, false, List, [], ◌∷◌, ◌++◌, length, slice_get, Option, Some, None, refl, add-one, sym, ap, ◌∙◌, subst, inl, inr, arith}
 use Rattle.std.proofs.lemmas.List.{length_push, nil_from_length}
 use Rattle.std.proofs.lemmas.Option.{slice_get_within}
-use Rattle.well_founded.specs.Graph.{Graph, Leads, IsGraph, IsMarked, IsUnmarked, Reaches, count_true, IsCount, AreCounts}
-use Rattle.well_founded.proofs.GraphLaws.{leads_trans, count_first, count_below, marked_or_not, marks_exist}
+use Rattle.graphs.specs.Graph.{Graph, Leads, IsGraph, IsMarked, IsUnmarked, Reaches, count_true, IsCount, AreCounts}
+use Rattle.graphs.proofs.Reached.{leads_trans, count_first, count_below, marked_or_not, marks_exist}
 
 -- where the marks are also there in others there are no more of them
 count_le : (fewer more : List Bool) → length fewer ≡ length more → ((k : ℕ) → IsMarked fewer k → IsMarked more k) → count_true fewer ≤ count_true more
