@@ -10,15 +10,16 @@ use Rattle.spec_syntax.specs.Expression.{Expression}
 use Rattle.spec_syntax.specs.Grammar.{Grammar}
 use Rattle.struct_model.specs.Structure.{Structure, Eps, Atom, Named, Alt, Tup, Structures, no_parts, more_parts, labels, labels_of_parts, key}
 use Rattle.struct_model.specs.Order.{order}
-use Rattle.struct_model.specs.Membership.{one_to, supply, ascends_above, is_supply}
+use Rattle.lists.specs.Ascending.{one_to, ascends_above}
+use Rattle.struct_model.specs.Membership.{supply, is_supply}
 use Rattle.lists.specs.Enumeration.{IsIn}
 use Rattle.struct_model.specs.Listing.{Before, IsOne, Lists}
 use Rattle.struct_model.proofs.ListingLaws.{one_listing}
 use Rattle.listing_laws.specs.Relabelled.{label_at, relabelled, relabelled_parts}
 use Rattle.listing_laws.specs.Laws.{SuppliesAreAlike}
 use Rattle.lists.proofs.Enumerated as enumerated
-use Rattle.struct_model.proofs.AscendingLabels.{Each, each_left, each_right, from_ascending}
-use Rattle.struct_model.proofs.SupplyLaws.{one_to_below}
+use Rattle.lists.proofs.Ascending.{Each, each_left, each_right, from_ascending}
+use Rattle.lists.proofs.AscendingAbove.{one_to_below}
 use Rattle.listing_laws.proofs.Changed.{changed, changed_parts, IsRising, key-changed, same_numbers, order_kept, same_changed, of_kept}
 
 each_also : (P Q : ℕ → Type 0) (ls : List ℕ) → ((l : ℕ) → P l → Q l) → Each P ls → Each Q ls

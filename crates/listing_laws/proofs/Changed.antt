@@ -15,11 +15,12 @@ use Rattle.spec_syntax.specs.Expression as expr
 use Rattle.spec_syntax.specs.Expression.{Expression, Expressions, no_expressions, more_expressions}
 use Rattle.spec_syntax.specs.Grammar.{Grammar}
 use Rattle.struct_model.specs.declared.tree.Form5.TheVariants as form
-use Rattle.struct_model.specs.Structure.{Structure, Eps, Atom, Named, Alt, Tup, Structures, no_parts, more_parts, part_list, labels, labels_of_parts, inserted, ascending, key}
+use Rattle.lists.specs.Ascending.{inserted, ascending}
+use Rattle.struct_model.specs.Structure.{Structure, Eps, Atom, Named, Alt, Tup, Structures, no_parts, more_parts, part_list, labels, labels_of_parts, key}
 use Rattle.struct_model.specs.Order.{form_rank, key_order, order_within, order_of_parts, order, is_sorted, is_strictly_sorted, is_least_rotation}
 use Rattle.struct_model.specs.Membership.{is_of, are_of, are_of_each, argument, names, is_epsilon, is_atom, is_label, is_labelled}
 use Rattle.struct_model.proofs.OrderLaws.{order_same, order_equal}
-use Rattle.struct_model.proofs.AscendingLabels.{inserted_first, inserted_later}
+use Rattle.lists.proofs.Ascending.{inserted_first, inserted_later}
 use Rattle.listing_laws.proofs.OrderKept.{EachOne, sorted_kept, strictly_sorted_kept, least_rotation_kept}
 
 abbrev mutual

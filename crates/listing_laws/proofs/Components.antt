@@ -9,7 +9,8 @@ use Rattle.spec_syntax.specs.Expression.{Expression, Expressions, no_expressions
 use Rattle.spec_syntax.specs.Grammar.{Grammar}
 use Rattle.struct_model.specs.declared.tree.Form5.{Form5}
 use Rattle.struct_model.specs.declared.tree.Form5.TheVariants as form
-use Rattle.struct_model.specs.Structure.{Structure, Tup, Structures, no_parts, more_parts, part_list, parts_of, labels, labels_of_parts, ascending, key}
+use Rattle.lists.specs.Ascending.{ascending}
+use Rattle.struct_model.specs.Structure.{Structure, Tup, Structures, no_parts, more_parts, part_list, parts_of, labels, labels_of_parts, key}
 use Rattle.struct_model.specs.Order.{form_rank, key_order, order_within, order_of_parts}
 use Rattle.struct_model.specs.Membership.{is_of, are_of_each}
 use Rattle.lists.specs.Enumeration.{Enumerated}
@@ -18,7 +19,7 @@ use Rattle.splits.specs.Splits.{Split, splits}
 use Rattle.listing_laws.specs.Lister.{product, each_before, by_splits, list_no_components}
 use Rattle.splits.specs.Laws.{PartBefore}
 use Rattle.lists.proofs.Enumerated as enumerated
-use Rattle.struct_model.proofs.AscendingLabels.{Rises, rises_ascending, ascending_both}
+use Rattle.lists.proofs.Ascending.{Rises, rises_ascending, ascending_both}
 use Rattle.splits.proofs.SplitLaws.{MakesUp, splits_are}
 use Rattle.listing_laws.proofs.OrderFacts.{same_key, before_within, before_by_key, before_by_first, before_by_others, PartsBefore}
 

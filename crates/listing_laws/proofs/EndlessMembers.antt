@@ -5,7 +5,8 @@ use Rattle.std.proofs.lemmas.Bool.{and_parts, and_from}
 use Rattle.spec_syntax.specs.Expression as expr
 use Rattle.spec_syntax.specs.Rules.{are_sequences}
 use Rattle.spec_syntax.specs.Grammar.{Grammar}
-use Rattle.struct_model.specs.Structure.{Structure, Eps, Atom, Named, Alt, Tup, Structures, no_parts, more_parts, nodes, nodes_of_parts, labels, size, ascending, key}
+use Rattle.lists.specs.Ascending.{ascending}
+use Rattle.struct_model.specs.Structure.{Structure, Eps, Atom, Named, Alt, Tup, Structures, no_parts, more_parts, nodes, nodes_of_parts, labels, size, key}
 use Rattle.struct_model.specs.Membership.{supply, same_labels, is_member}
 use Rattle.lists.specs.Enumeration.{IsIn, Ascends}
 use Rattle.struct_model.specs.Listing.{IsOne}
@@ -24,7 +25,7 @@ use Rattle.well_founded.proofs.RankLaws.{ranks_exist}
 use Rattle.listing_laws.specs.Endless.{Differ, HasEndlesslyMany}
 use Rattle.listing_laws.specs.Laws.{IsListing, EndlessByMembers}
 use Rattle.listing_laws.proofs.Distinct.{no_longer}
-use Rattle.struct_model.proofs.AscendingLabels.{ascending_same}
+use Rattle.lists.proofs.Ascending.{ascending_same}
 use Rattle.listing_laws.proofs.Relabel.{relabel}
 use Rattle.listing_laws.proofs.Sequences.{name_unread}
 use Rattle.struct_model.proofs.SupplyLaws.{supply_is, supply_rises, supply_allowed, supply_size}

@@ -15,7 +15,7 @@ use Rattle.listing_laws.specs.Lister.{list_no_components, alternatives, by_split
 use Rattle.listing_laws.specs.BySize.{by_sizes}
 use Rattle.listing_laws.specs.Laws.{UnionIsListed, ListsSplits, ListsSizes, ProdIsListed, WordsAreListed}
 use Rattle.lists.proofs.Enumerated.{from_map}
-use Rattle.struct_model.proofs.AscendingLabels.{Rises}
+use Rattle.lists.proofs.Ascending.{Rises}
 use Rattle.splits.proofs.SplitLaws.{splits_are}
 use Rattle.listing_laws.proofs.Arguments.{union_is}
 use Rattle.listing_laws.proofs.Components.{no_components_are, by_splits_are, products_are, components_are}

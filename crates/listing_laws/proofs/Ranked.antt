@@ -31,7 +31,7 @@ use Rattle.well_founded.proofs.LeastLaws.{held}
 use Rattle.listing_laws.specs.Laws.{IsNeverEmpty}
 use Rattle.listing_laws.proofs.Containers.{list_is, no_list, container_is, component_stands}
 use Rattle.listing_laws.proofs.SetsRead.{in_sets, size-in_sets, stands_in_sets, read_of}
-use Rattle.struct_model.proofs.AscendingLabels.{Each, each_left, each_right}
+use Rattle.lists.proofs.Ascending.{Each, each_left, each_right}
 use Rattle.listing_laws.proofs.RuleLaws.{inside}
 use Rattle.listing_laws.proofs.BuildingUp.{eps_within, atom_within, named_within, alt_within, list_within, EachIn, part_count, few_parts, in_part_lists, argument_number}
 

@@ -17,7 +17,7 @@ use Rattle.well_founded.specs.Sizes.{IsOf}
 use Rattle.well_founded.proofs.NodesLaws.{right_node_is}
 use Rattle.well_founded.proofs.LeastLaws.{HasInside, name_inside, name_is, argument_read, read_argument}
 use Rattle.listing_laws.proofs.Containers.{no_list}
-use Rattle.struct_model.proofs.AscendingLabels.{Each, each_left, each_right}
+use Rattle.lists.proofs.Ascending.{Each, each_left, each_right}
 use Rattle.listing_laws.proofs.Sequences.{AreSequences, both_sequences, argument_sequences, node_sequences}
 
 module _ (g : Grammar) (sequences : are_sequences g.rules ≡ true) where

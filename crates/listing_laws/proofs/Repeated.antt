@@ -11,7 +11,8 @@ use Rattle.spec_syntax.specs.Expression as expr
 use Rattle.spec_syntax.specs.Expression.{Expression}
 use Rattle.spec_syntax.specs.Grammar.{Grammar}
 use Rattle.struct_model.specs.declared.tree.Form5.TheVariants as form
-use Rattle.struct_model.specs.Structure.{Structure, Tup, Structures, no_parts, part_list, parts_of, labels, labels_of_parts, ascending}
+use Rattle.lists.specs.Ascending.{ascending}
+use Rattle.struct_model.specs.Structure.{Structure, Tup, Structures, no_parts, part_list, parts_of, labels, labels_of_parts}
 use Rattle.struct_model.specs.Membership.{is_of, are_of, is_supply}
 use Rattle.lists.specs.Enumeration.{Enumerated}
 use Rattle.struct_model.specs.Listing.{IsOne, Lists}
@@ -22,7 +23,7 @@ use Rattle.listing_laws.specs.Lister.{sequence, by_parts, after_one, admits_some
 use Rattle.splits.specs.Laws.{PartBefore}
 use Rattle.listing_laws.specs.Laws.{IsNeverEmpty, ListsParts, SequenceIsListed}
 use Rattle.lists.proofs.Enumerated as enumerated
-use Rattle.struct_model.proofs.AscendingLabels.{Rises}
+use Rattle.lists.proofs.Ascending.{Rises}
 use Rattle.listing_laws.proofs.Sizes.{length-ascending, size_is}
 use Rattle.splits.proofs.SplitLaws.{MakesUp, splits_are}
 use Rattle.struct_model.proofs.SupplyLaws.{supply_rises}

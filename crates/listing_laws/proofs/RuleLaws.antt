@@ -11,7 +11,8 @@ use Rattle.spec_syntax.specs.Expression.{Expression}
 use Rattle.spec_syntax.specs.Rules.{symbol, right_side}
 use Rattle.spec_syntax.specs.Grammar.{Grammar}
 use Rattle.spec_syntax.proofs.RulesLemmas.{symbol-within}
-use Rattle.struct_model.specs.Structure.{Structure, Eps, Atom, Named, labels, ascending, key}
+use Rattle.lists.specs.Ascending.{ascending}
+use Rattle.struct_model.specs.Structure.{Structure, Eps, Atom, Named, labels, key}
 use Rattle.struct_model.specs.Order.{key_order, order_within}
 use Rattle.struct_model.specs.Membership.{is_of, names, is_epsilon, is_atom, is_label}
 use Rattle.struct_model.specs.Listing.{Before, IsOne, Lists}

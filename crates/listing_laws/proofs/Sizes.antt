@@ -1,8 +1,9 @@
 -- Numbers of labels and of atoms.
 use Rattle.std.proofs.Common.{◌≡◌, ℕ, suc, List, [], ◌∷◌, length, refl, sym, ap, ◌∙◌, inl, inr}
 use Rattle.std.proofs.lemmas.Bool.{cases_lt}
-use Rattle.struct_model.specs.Structure.{Structure, inserted, ascending, labels, labels_of_parts, parts_of, size, key}
-use Rattle.struct_model.proofs.AscendingLabels.{inserted_first, inserted_later}
+use Rattle.lists.specs.Ascending.{inserted, ascending}
+use Rattle.struct_model.specs.Structure.{Structure, labels, labels_of_parts, parts_of, size, key}
+use Rattle.lists.proofs.Ascending.{inserted_first, inserted_later}
 
 -- the number of atoms of all the components
 abbrev pub size_of_all : List Structure → ℕ

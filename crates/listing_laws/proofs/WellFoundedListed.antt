@@ -17,7 +17,7 @@ use Rattle.well_founded.specs.Nodes.{node_at}
 use Rattle.well_founded.specs.Rank.{AreRanks}
 use Rattle.well_founded.proofs.NodesLaws.{in_nodes, node_of}
 use Rattle.listing_laws.specs.Laws.{IsListing}
-use Rattle.struct_model.proofs.AscendingLabels.{Each, from_ascending}
+use Rattle.lists.proofs.Ascending.{Each, from_ascending}
 use Rattle.listing_laws.proofs.FilterLaws.{listing_within_is}
 use Rattle.listing_laws.proofs.Sizes.{size_is}
 use Rattle.listing_laws.proofs.Ranked.{rank_of, one_less, within, name_within, suffix_within, bound_within}

@@ -1,2 +1,11 @@
 pub mod Within
 pub mod Enumerated
+pub mod Places
+pub mod Tests
+pub mod Filters
+pub mod FlatMaps
+pub mod Sums
+pub mod Distinct
+pub mod Ascending
+pub mod AscendingAbove
+pub mod NumberOrder

@@ -1,1 +1,2 @@
 pub mod Enumeration
+pub mod Ascending

@@ -3,7 +3,7 @@ use Rattle.std.proofs.Common.{◌≡◌, ℕ, ◌+◌, ◌-◌, ◌<◌, ◌≤�
 use Rattle.std.specs.Option.{option_map, option_or, IfSome}
 use Rattle.std.proofs.lemmas.Bool.{cases_lt, lt-ltb, le-ltb, le-leb, lt-leb, cond-true, cond-false}
 use Rattle.std.proofs.lemmas.List.{drop_more, drop_all, take_more, append-nil, length-drop}
-use Rattle.struct_model.specs.Membership.{ascends_above}
+use Rattle.lists.specs.Ascending.{ascends_above}
 use Rattle.lists.specs.Enumeration.{IsIn}
 use Rattle.splits.specs.declared.labelled.Change.{Change}
 use Rattle.splits.specs.Splits.{splits}

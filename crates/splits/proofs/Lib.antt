@@ -1,4 +1,3 @@
-pub mod PartOrder
 pub mod SplitLaws
 pub mod SplitSupplies
 pub mod Selections

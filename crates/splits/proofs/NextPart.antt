@@ -4,8 +4,8 @@ use Rattle.std.specs.Cmp.Lexicographic.{slice_cmp}
 use Rattle.std.specs.Option.{option_map, option_or}
 use Rattle.std.proofs.lemmas.Bool.{and_parts, cases_lt, lt-ltb, le-ltb, le-leb, lt-leb, eq-eqb, ne_eqb, cond-true, cond-false}
 use Rattle.std.proofs.lemmas.List.{length-take-le}
-use Rattle.struct_model.specs.Membership.{ascends_above}
-use Rattle.splits.proofs.PartOrder.{same_first, lesser_first, from_first}
+use Rattle.lists.specs.Ascending.{ascends_above}
+use Rattle.lists.proofs.NumberOrder.{same_first, lesser_first, from_first}
 use Rattle.splits.proofs.Selections.{Selects, selects_more, selects_length, selects_front, selects_above, front_is_least}
 
 -- the part is a selection, and it has from low to high labels

@@ -2,34 +2,19 @@
 use Rattle.std.proofs.Common.{◌≡◌, ◌⊎◌, ℕ, ◌≤◌, Bool, true, false, not, cond, List, [], ◌∷◌, filter, length, nat_le, Option, Some, None, refl, sym, ap, ◌∙◌, subst, inl, inr, Less, nat_cmp}
 use Rattle.std.specs.Cmp.Lexicographic.{slice_cmp}
 use Rattle.std.proofs.lemmas.Bool.{and_parts, and_from, leb-true, le-leb, cond-true, cond-false, cases_Bool, false_from_ne_true, not_from_false, not_from_true}
-use Rattle.struct_model.specs.Membership.{ascends_above}
+use Rattle.lists.specs.Ascending.{ascends_above}
 use Rattle.lists.specs.Enumeration.{IsIn, Ascends}
+use Rattle.lists.proofs.Places.{is_empty}
+use Rattle.lists.proofs.Filters.{filter_same, filter_all, filter_none}
 use Rattle.lists.proofs.Enumerated.{in_map, from_map, in_filter, from_filter, filtered}
-use Rattle.struct_model.proofs.AscendingLabels.{Rises}
+use Rattle.lists.proofs.Ascending.{Rises}
 use Rattle.splits.specs.Splits.{Split, splits}
 use Rattle.splits.specs.Parts.{has_length, parts, comes_before, after, from_part, IsPart}
 use Rattle.splits.specs.Laws.{PartBefore}
 use Rattle.splits.proofs.SplitLaws.{MakesUp, splits_are}
-use Rattle.splits.proofs.PartOrder.{before_true, before_is, not_before_itself, not_both_ways, up_to}
+use Rattle.lists.proofs.NumberOrder.{before_true, before_is, not_before_itself, not_both_ways, up_to}
 use Rattle.splits.proofs.Selections.{split_at, selection_splits, split_selects}
 use Rattle.splits.proofs.NextPart.{Fits, Follows}
-
--- ---- filters
-
-module _ {X : Type 0} where
-  pub filter_same : (p q : X → Bool) (xs : List X) → ((x : X) → IsIn x xs → p x ≡ q x) → filter p xs ≡ filter q xs
-  filter_same p q [] same = refl
-  filter_same p q (x ∷ xs) same =
-      let others : filter p xs ≡ filter q xs = filter_same p q xs (λ y there. same y (inr there)) in
-      ap (λ (b : Bool). cond b (x ∷ filter p xs) (filter p xs)) (same x (inl refl)) ∙ ap (λ (ys : List X). cond (q x) (x ∷ ys) ys) others
-
-  pub filter_all : (p : X → Bool) (xs : List X) → ((x : X) → IsIn x xs → p x ≡ true) → filter p xs ≡ xs
-  filter_all p [] all = refl
-  filter_all p (x ∷ xs) all = cond-true (p x) _ _ (all x (inl refl)) ∙ ap (λ (ys : List X). x ∷ ys) (filter_all p xs (λ y there. all y (inr there)))
-
-  pub filter_none : (p : X → Bool) (xs : List X) → ((x : X) → IsIn x xs → p x ≡ false) → filter p xs ≡ []
-  filter_none p [] none = refl
-  filter_none p (x ∷ xs) none = cond-false (p x) _ _ (none x (inl refl)) ∙ filter_none p xs (λ y there. none y (inr there))
 
 -- ---- the parts are those that fit
 
@@ -120,8 +105,4 @@ from_first_part low high u part least =
     filter_all (λ (s : Split). not (comes_before s.part part)) (parts low high u) (λ split there. is_from split.part part (least split.part (split_fits low high u split there)))
 
 pub no_parts : (low high : ℕ) (u : List ℕ) → ((other : List ℕ) → Fits low high u other → ⊥) → parts low high u ≡ []
-no_parts low high u none = empty (parts low high u) (λ split there. none split.part (split_fits low high u split there))
-  where
-    empty : (ss : List Split) → ((split : Split) → IsIn split ss → ⊥) → ss ≡ []
-    empty [] never = refl
-    empty (s ∷ ss) never = absurd (never s (inl refl))
+no_parts low high u none = is_empty (parts low high u) (λ split there. none split.part (split_fits low high u split there))

@@ -2,13 +2,13 @@
 use Rattle.std.proofs.Common.{◌≡◌, ◌⊎◌, ℕ, zero, suc, ◌<◌, ◌≤◌, true, cond, List, [], ◌∷◌, map, filter, take, length, nat_lt, nat_eq, refl, sym, subst, inl, inr, arith, Less, nat_cmp}
 use Rattle.std.specs.Cmp.Lexicographic.{slice_cmp}
 use Rattle.std.proofs.lemmas.Bool.{and_parts, ltb-true, lt-ltb, eq-eqb, ne_eqb, cond-true, cond-false}
-use Rattle.struct_model.specs.Membership.{ascends_above}
+use Rattle.lists.specs.Ascending.{ascends_above}
 use Rattle.lists.specs.Enumeration.{IsIn}
 use Rattle.lists.proofs.Within.{in_left, in_right}
 use Rattle.lists.proofs.Enumerated.{in_map, in_filter}
 use Rattle.splits.specs.Splits.{Split, taking, leaving, begins_above, splits}
 use Rattle.splits.proofs.SplitSupplies.{split_cases}
-use Rattle.splits.proofs.PartOrder.{from_first}
+use Rattle.lists.proofs.NumberOrder.{from_first}
 
 -- are the first labels some of the second ones, in their order
 abbrev pub Selects : List ℕ → List ℕ → Type 0

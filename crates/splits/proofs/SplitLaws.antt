@@ -3,13 +3,13 @@ use Rattle.std.proofs.Common.{◌≡◌, ◌⊎◌, ℕ, suc, ◌<◌, true, Lis
 use Rattle.std.specs.Cmp.Lexicographic.{slice_cmp}
 use Rattle.std.proofs.lemmas.Bool.{cases_lt, cases_order}
 use Rattle.std.proofs.lemmas.Bool.Decides.{nat_tests}
-use Rattle.struct_model.specs.Structure.{inserted, ascending}
+use Rattle.lists.specs.Ascending.{inserted, ascending}
 use Rattle.lists.specs.Enumeration.{Enumerated}
 use Rattle.splits.specs.Splits.{Split, taking, leaving, begins_above, splits}
 use Rattle.splits.specs.Laws.{PartBefore}
-use Rattle.splits.proofs.PartOrder.{same_first, lesser_first}
+use Rattle.lists.proofs.NumberOrder.{same_first, lesser_first}
 use Rattle.lists.proofs.Enumerated as enumerated
-use Rattle.struct_model.proofs.AscendingLabels.{From, AtLeast, Rises, lower, each_append, each_left, each_right, each_ascending, from_ascending, ascending_same, inserted_first, inserted_later, inserted_least, ascending_middle}
+use Rattle.lists.proofs.Ascending.{From, AtLeast, Rises, lower, each_append, each_left, each_right, each_ascending, from_ascending, ascending_same, inserted_first, inserted_later, inserted_least, ascending_middle}
 
 -- the two lists ascend and together they are the supply
 pub record MakesUp (u : List ℕ) (split : Split) : Type 0 where

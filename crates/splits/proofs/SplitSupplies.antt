@@ -4,11 +4,13 @@ use Rattle.std.specs.List.{list_all}
 use Rattle.std.proofs.lemmas.Bool.{and_parts, and_from, ltb-true, lt-ltb}
 use Rattle.spec_syntax.specs.declared.statement.Universe.{Universe}
 use Rattle.spec_syntax.specs.declared.statement.Universe.TheVariants.{Labelled, Unlabelled}
-use Rattle.struct_model.specs.Membership.{is_supply, ascends_above}
+use Rattle.lists.specs.Ascending.{ascends_above}
+use Rattle.struct_model.specs.Membership.{is_supply}
 use Rattle.lists.specs.Enumeration.{IsIn}
 use Rattle.lists.proofs.Within.{in_either}
 use Rattle.lists.proofs.Enumerated.{from_map, from_filter}
-use Rattle.struct_model.proofs.SupplyLaws.{zeros_rise, rises_above}
+use Rattle.lists.proofs.AscendingAbove.{rises_above}
+use Rattle.struct_model.proofs.SupplyLaws.{zeros_rise}
 use Rattle.splits.specs.Splits.{Split, taking, leaving, begins_above, splits}
 use Rattle.splits.proofs.SplitLaws.{MakesUp, splits_are}
 

@@ -1,6 +1,6 @@
 -- The splits of a supply, and those whose part has a length within bounds, are listed.
 use Rattle.lists.proofs.Enumerated as enumerated
-use Rattle.struct_model.proofs.AscendingLabels.{Rises}
+use Rattle.lists.proofs.Ascending.{Rises}
 use Rattle.struct_model.proofs.SupplyLaws.{supply_rises}
 use Rattle.splits.specs.Splits.{splits}
 use Rattle.splits.specs.Parts.{has_length}

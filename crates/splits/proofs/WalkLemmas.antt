@@ -5,10 +5,11 @@ use Rattle.spec_syntax.specs.declared.statement.Universe.TheVariants.{Labelled}
 use Rattle.struct_model.specs.declared.supplies.Supply.{Supply}
 use Rattle.struct_model.specs.declared.supplies.Supply.TheVariants.{Zeros, Labels}
 use Rattle.struct_model.specs.SupplyView.{supply_labels, supply_universe, is_in_order}
-use Rattle.struct_model.specs.Membership.{ascends_above}
+use Rattle.lists.specs.Ascending.{ascends_above}
 use Rattle.lists.specs.Enumeration.{IsIn}
-use Rattle.struct_model.proofs.AscendingLabels.{Rises}
-use Rattle.struct_model.proofs.SupplyLaws.{in_order_is, supply_rises, rises_above}
+use Rattle.lists.proofs.Ascending.{Rises}
+use Rattle.lists.proofs.AscendingAbove.{rises_above}
+use Rattle.struct_model.proofs.SupplyLaws.{in_order_is, supply_rises}
 use Rattle.splits.specs.Splits.{Split, splits}
 use Rattle.splits.specs.Parts.{parts, after, from_part, IsPart}
 use Rattle.splits.specs.WalkView.{given_labels, to_come, IsToCome}

@@ -2,12 +2,12 @@
 use Rattle.std.proofs.Common.{◌≡◌, ◌⊎◌, ℕ, zero, suc, ◌+◌, ◌<◌, ◌≤◌, true, List, [], ◌∷◌, length, replicate, None, refl, sym, ap, ◌∙◌, subst, inl, inr, arith, Less, nat_cmp}
 use Rattle.std.specs.Cmp.Lexicographic.{slice_cmp}
 use Rattle.std.proofs.lemmas.List.{length-replicate}
-use Rattle.struct_model.specs.Membership.{ascends_above}
+use Rattle.lists.specs.Ascending.{ascends_above}
 use Rattle.lists.specs.Enumeration.{IsIn}
 use Rattle.lists.proofs.Within.{in_left}
 use Rattle.lists.proofs.Enumerated.{in_map}
 use Rattle.splits.specs.Splits.{taking, splits}
-use Rattle.splits.proofs.PartOrder.{same_first}
+use Rattle.lists.proofs.NumberOrder.{same_first}
 use Rattle.splits.proofs.Selections.{Selects, selects_length, selects_above}
 use Rattle.splits.proofs.NextPart.{Fits, IsNext, Follows}
 

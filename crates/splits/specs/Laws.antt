@@ -4,7 +4,7 @@ use Rattle.std.specs.declared.cmp.Ordering.TheVariants.{Less}
 use Rattle.std.specs.Ordering.{nat_cmp}
 use Rattle.std.specs.Cmp.Lexicographic.{slice_cmp}
 use Rattle.spec_syntax.specs.declared.statement.Universe.{Universe}
-use Rattle.struct_model.specs.Structure.{ascending}
+use Rattle.lists.specs.Ascending.{ascending}
 use Rattle.struct_model.specs.Membership.{is_supply}
 use Rattle.lists.specs.Enumeration.{Enumerated}
 use Rattle.splits.specs.Splits.{Split, splits}

@@ -1,7 +1,7 @@
 //! Parts of ascending labels.
 ghost use Rattle.std.specs.Prelude.{◌≡◌, ◌+◌, ◌-◌, ◌≤◌, max, length, IfOk, IfSome, IsTrue};
 ghost use Rattle.std.specs.Option.{option_map};
-ghost use Rattle.struct_model.specs.Membership.{ascends_above};
+ghost use Rattle.lists.specs.Ascending.{ascends_above};
 ghost use Rattle.lists.specs.Enumeration.{IsIn};
 ghost use Rattle.splits.specs.Splits.{splits};
 ghost use Rattle.splits.specs.Parts.{parts, after, from_part, IsPart};

@@ -4,8 +4,8 @@ use Rattle.std.specs.List.{filter}
 use Rattle.std.proofs.lemmas.Bool.{cases_lt, cases_order}
 use Rattle.std.proofs.lemmas.Bool.Decides.{nat_tests}
 use Rattle.struct_model.specs.declared.keys.Run.{Run}
-use Rattle.struct_model.specs.Structure.{inserted, ascending}
-use Rattle.struct_model.proofs.AscendingLabels.{inserted_first, inserted_later}
+use Rattle.lists.specs.Ascending.{inserted, ascending}
+use Rattle.lists.proofs.Ascending.{inserted_after, inserted_before}
 use Rattle.struct_model.specs.Runs.{lesser_run, merged, run_of, first_run, key_from}
 
 -- the numbers from low on
@@ -17,15 +17,6 @@ from_keep low x xs h = grind (arith, nat_tests)
 
 from_skip : (low x : ℕ) (xs : List ℕ) → x < low → from low (x ∷ xs) ≡ from low xs
 from_skip low x xs h = grind (arith, nat_tests)
-
--- a number above those of a run goes in after the run
-inserted_after : (x m n : ℕ) (ms : List ℕ) → m < x → inserted x (replicate n m ++ ms) ≡ replicate n m ++ inserted x ms
-inserted_after x m zero ms h = refl
-inserted_after x m (suc n) ms h = inserted_later x m (replicate n m ++ ms) h ∙ ap (λ ns. m ∷ ns) (inserted_after x m n ms h)
-
-inserted_before : (x m n : ℕ) (ms : List ℕ) → 1 ≤ n → x ≤ m → inserted x (replicate n m ++ ms) ≡ x ∷ replicate n m ++ ms
-inserted_before x m zero ms some h = absurd (omega arith)
-inserted_before x m (suc n) ms some h = inserted_first x m (replicate n m ++ ms) h
 
 -- where no number is at least low, none is at least a greater one
 from_none : (low k : ℕ) (xs : List ℕ) → low ≤ k → from low xs ≡ [] → from k xs ≡ []

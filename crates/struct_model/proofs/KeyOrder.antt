@@ -7,7 +7,7 @@ use Rattle.std.specs.Cmp.Lexicographic.{slice_cmp}
 use Rattle.std.proofs.lemmas.Cmp.{nat_cmp_total, nat_list_cmp_total, tied_itself, ranked, by_ranked}
 use Rattle.std.proofs.lemmas.Bool.Decides.{nat_tests}
 use Rattle.struct_model.specs.declared.keys.Run.{Run}
-use Rattle.struct_model.specs.Structure.{ascending}
+use Rattle.lists.specs.Ascending.{ascending}
 use Rattle.struct_model.specs.Runs.{first_run, key_from}
 use Rattle.struct_model.proofs.KeyLaws.{IsFirst, IsFirstRun, first_run_is}
 

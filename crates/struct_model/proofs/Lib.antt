@@ -7,5 +7,4 @@ pub mod KeyOrder
 pub mod PartsOrder
 pub mod OrderLaws
 pub mod ListingLaws
-pub mod AscendingLabels
 pub mod SupplyLaws

@@ -1,8 +1,9 @@
 -- Which structures an expression has, and which a class has at a size.
-use Rattle.std.specs.Prelude.{ℕ, zero, suc, Bool, true, false, not, ◌&&◌, ◌||◌, nat_eq, nat_lt, List, [], ◌∷◌, ◌++◌, length, replicate, Option, Some, None}
+use Rattle.std.specs.Prelude.{ℕ, zero, suc, Bool, true, false, not, ◌&&◌, ◌||◌, nat_eq, nat_lt, List, [], ◌∷◌, length, replicate, Option, Some, None}
 use Rattle.std.specs.Option.{option_map_or}
 use Rattle.std.specs.List.{list_all}
 use Rattle.std.specs.Cmp.Lexicographic.{pointwise}
+use Rattle.lists.specs.Ascending.{ascends_above, one_to}
 use Rattle.spec_syntax.specs.declared.statement.Universe.{Universe}
 use Rattle.spec_syntax.specs.declared.statement.Universe.TheVariants.{Labelled, Unlabelled}
 use Rattle.spec_syntax.specs.declared.expr.Kind.TheVariants as kind
@@ -71,20 +72,10 @@ abbrev mutual
   are_of_each g (more_expressions e es) (more_parts s ss) = is_of g e s && are_of_each g es ss
   are_of_each g es ss = false
 
--- the numbers from 1 to n
-abbrev pub one_to : ℕ → List ℕ
-one_to zero = []
-one_to (suc n) = one_to n ++ suc n ∷ []
-
 -- the labels of a structure of size n: n zeros, or 1 to n
 abbrev pub supply : Universe → ℕ → List ℕ
 supply Unlabelled n = replicate n 0
 supply Labelled n = one_to n
-
--- is each number above the one before it, and the first one above low
-abbrev pub ascends_above : ℕ → List ℕ → Bool
-ascends_above low [] = true
-ascends_above low (n ∷ ns) = nat_lt low n && ascends_above n ns
 
 -- may atoms of the universe carry these labels: zeros, or distinct labels of at least 1 in ascending order
 abbrev pub is_supply : Universe → List ℕ → Bool

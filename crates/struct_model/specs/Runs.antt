@@ -5,7 +5,8 @@ use Rattle.std.specs.Ordering.{nat_cmp}
 use Rattle.std.specs.List.{filter}
 use Rattle.std.specs.Cmp.Lexicographic.{slice_cmp}
 use Rattle.struct_model.specs.declared.keys.Run.{Run}
-use Rattle.struct_model.specs.Structure.{Structure, labels, ascending}
+use Rattle.lists.specs.Ascending.{ascending}
+use Rattle.struct_model.specs.Structure.{Structure, labels}
 
 -- how many labels the run has, if there is one
 abbrev pub run_count : Option Run → ℕ

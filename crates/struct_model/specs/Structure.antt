@@ -1,5 +1,6 @@
 -- Structures: derivations of an expression, as plain trees.
-use Rattle.std.specs.Prelude.{ℕ, ◌+◌, List, [], ◌∷◌, ◌++◌, length, nat_le, if◌then◌else◌}
+use Rattle.std.specs.Prelude.{ℕ, ◌+◌, List, [], ◌∷◌, ◌++◌, length}
+use Rattle.lists.specs.Ascending.{ascending}
 use Rattle.struct_model.specs.declared.tree.Form5.{Form5}
 
 -- Rule 0 is the word itself, and label 0 is that of an unlabelled atom.
@@ -52,16 +53,6 @@ abbrev mutual
 -- the number of atoms
 abbrev pub size : Structure → ℕ
 size s = length (labels s)
-
--- the number put in its place among ascending ones
-abbrev pub inserted : ℕ → List ℕ → List ℕ
-inserted n [] = n ∷ []
-inserted n (m ∷ ms) = if nat_le n m then n ∷ m ∷ ms else m ∷ inserted n ms
-
--- the numbers in ascending order
-abbrev pub ascending : List ℕ → List ℕ
-ascending [] = []
-ascending (n ∷ ns) = inserted n (ascending ns)
 
 -- the labels in ascending order
 abbrev pub key : Structure → List ℕ

@@ -4,7 +4,7 @@ use Rattle.spec_syntax.specs.declared.statement.Universe.{Universe}
 use Rattle.spec_syntax.specs.declared.statement.Universe.TheVariants.{Labelled, Unlabelled}
 use Rattle.struct_model.specs.declared.supplies.Supply.{Supply}
 use Rattle.struct_model.specs.declared.supplies.Supply.TheVariants.{Zeros, Labels}
-use Rattle.struct_model.specs.Membership.{ascends_above}
+use Rattle.lists.specs.Ascending.{ascends_above}
 
 -- the labels that the supply has
 abbrev pub supply_labels : Supply → List ℕ

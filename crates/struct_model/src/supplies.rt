@@ -1,6 +1,7 @@
 //! Supplies of labels, which the atoms of a structure carry.
 ghost use Rattle.std.specs.Prelude.{◌≡◌, length, IfOk, IsTrue};
-ghost use Rattle.struct_model.specs.Membership.{supply, one_to, ascends_above};
+ghost use Rattle.lists.specs.Ascending.{one_to, ascends_above};
+ghost use Rattle.struct_model.specs.Membership.{supply};
 ghost use Rattle.struct_model.specs.SupplyView.{supply_labels, supply_universe, is_in_order};
 
 use crate::Labels;

@@ -1,5 +1,5 @@
 use Rattle.std.proofs.Common.{◌≡◌}
-use Rattle.struct_model.specs.Membership.{one_to}
+use Rattle.lists.specs.Ascending.{one_to}
 use Rattle.struct_model.proofs.supplies.labels_to.Given as goal
 
 abbrev pub invariant-loop-below : goal.invariant-loop-below

@@ -1,6 +1,6 @@
 -- Different numbers of 32 bits are fewer than 2^32.
 use Rattle.std.proofs.Common.{arith}
-use Rattle.struct_model.proofs.SupplyLaws.{few_ascend}
+use Rattle.lists.proofs.AscendingAbove.{few_ascend}
 use Rattle.struct_model.proofs.supplies.number_of_labels.Goals as goal
 
 pub overflow_cast-result : goal.overflow_cast-result

@@ -1,4 +1,4 @@
--- The lexicographic order of lists of labels.
+-- The lexicographic order of lists of numbers.
 use Rattle.std.proofs.Common.{◌≡◌, ◌⊎◌, ℕ, ◌<◌, true, List, ◌∷◌, refl, ap, ◌∙◌, sym, inl, inr, arith, Ordering, Less, nat_cmp}
 use Rattle.std.specs.declared.cmp.Ordering.TheVariants.{Equal, Greater}
 use Rattle.std.specs.Ordering.{ordering_then, ordering_reverse, is_lt}
@@ -6,7 +6,6 @@ use Rattle.std.specs.Cmp.Lexicographic.{slice_cmp}
 use Rattle.std.proofs.lemmas.Bool.{cases_order}
 use Rattle.std.proofs.lemmas.Bool.Decides.{nat_tests}
 use Rattle.std.proofs.lemmas.Cmp.{nat_cmp_total, nat_list_cmp_total, tied_itself}
-use Rattle.splits.specs.Parts.{comes_before}
 
 pub same_first : (n : ℕ) (ms ns : List ℕ) → slice_cmp nat_cmp (n ∷ ms) (n ∷ ns) ≡ slice_cmp nat_cmp ms ns
 same_first n ms ns = ap (λ o. ordering_then o (slice_cmp nat_cmp ms ns)) (tied_itself nat_cmp_total n)
@@ -17,7 +16,7 @@ lesser_first m n ms ns h = grind (arith, nat_tests)
 greater_first : (m n : ℕ) (ms ns : List ℕ) → n < m → slice_cmp nat_cmp (m ∷ ms) (n ∷ ns) ≡ Greater
 greater_first m n ms ns h = grind (arith, nat_tests)
 
--- what is before a list begins with a lesser label, or with the same one and goes on before it
+-- what is before a list begins with a lesser number, or with the same one and goes on before it
 pub from_first : (m n : ℕ) (ms ns : List ℕ) → slice_cmp nat_cmp (m ∷ ms) (n ∷ ns) ≡ Less → (m < n) ⊎ ((m ≡ n) × (slice_cmp nat_cmp ms ns ≡ Less))
 from_first m n ms ns h = elim (cases_order m n) [
   | inl same ↦ inr (same, at_same m n ms ns same h)
@@ -54,8 +53,8 @@ less_from Less h = cc
 less_from Equal h = absurd (cc)
 less_from Greater h = absurd (cc)
 
-pub before_true : (ms ns : List ℕ) → comes_before ms ns ≡ true → slice_cmp nat_cmp ms ns ≡ Less
+pub before_true : (ms ns : List ℕ) → is_lt (slice_cmp nat_cmp ms ns) ≡ true → slice_cmp nat_cmp ms ns ≡ Less
 before_true ms ns h = less_from (slice_cmp nat_cmp ms ns) h
 
-pub before_is : (ms ns : List ℕ) → slice_cmp nat_cmp ms ns ≡ Less → comes_before ms ns ≡ true
+pub before_is : (ms ns : List ℕ) → slice_cmp nat_cmp ms ns ≡ Less → is_lt (slice_cmp nat_cmp ms ns) ≡ true
 before_is ms ns h = ap is_lt h

@@ -1,10 +1,10 @@
--- Labels in ascending order.
-use Rattle.std.proofs.Common.{◌≡◌, ℕ, ◌<◌, ◌≤◌, List, [], ◌∷◌, ◌++◌, refl, sym, ap, ◌∙◌, subst, inl, inr, arith}
+-- Numbers put in ascending order.
+use Rattle.std.proofs.Common.{◌≡◌, ℕ, zero, suc, length, replicate, ◌<◌, ◌≤◌, List, [], ◌∷◌, ◌++◌, refl, sym, ap, ◌∙◌, subst, inl, inr, arith}
 use Rattle.std.proofs.lemmas.Bool.{cases_lt, cases_order}
 use Rattle.std.proofs.lemmas.Bool.Decides.{nat_tests}
-use Rattle.struct_model.specs.Structure.{inserted, ascending}
+use Rattle.lists.specs.Ascending.{inserted, ascending}
 
--- has each label the property
+-- has each number the property
 abbrev pub Each : (ℕ → Type 0) → List ℕ → Type 0
 Each P [] = Unit {0}
 Each P (n ∷ ns) = P n × Each P ns
@@ -12,11 +12,11 @@ Each P (n ∷ ns) = P n × Each P ns
 abbrev pub From : ℕ → ℕ → Type 0
 From low n = low ≤ n
 
--- is each label at least low
+-- is each number at least low
 abbrev pub AtLeast : ℕ → List ℕ → Type 0
 AtLeast low ns = Each (From low) ns
 
--- is each label at most the next one
+-- is each number at most the next one
 abbrev pub Rises : List ℕ → Type 0
 Rises [] = Unit {0}
 Rises (n ∷ ns) = AtLeast n ns × Rises ns
@@ -89,7 +89,7 @@ pub ascending_same : (xs : List ℕ) → Rises xs → ascending xs ≡ xs
 ascending_same [] r = refl
 ascending_same (x ∷ xs) r = ap (inserted x) (ascending_same xs r.1) ∙ inserted_least x xs r.0
 
--- two labels may go in in either order
+-- two numbers may go in in either order
 inserted_swap : (x y : ℕ) (ms : List ℕ) → x < y → inserted x (inserted y ms) ≡ inserted y (inserted x ms)
 inserted_swap x y [] h = inserted_first x y [] (omega arith) ∙ sym (inserted_later y x [] h)
 inserted_swap x y (m ∷ ms) h = elim (cases_lt m x) [
@@ -129,11 +129,35 @@ ascending_right : (xs ys : List ℕ) → ascending (xs ++ ascending ys) ≡ asce
 ascending_right [] ys = ascending_same (ascending ys) (rises_ascending ys)
 ascending_right (x ∷ xs) ys = ap (inserted x) (ascending_right xs ys)
 
--- labels in two parts, each put in order first
+-- numbers in two parts, each put in order first
 pub ascending_both : (xs ys : List ℕ) → ascending (ascending xs ++ ascending ys) ≡ ascending (xs ++ ys)
 ascending_both xs ys = ascending_left xs (ascending ys) ∙ ascending_right xs ys
 
--- a label in front of the second part
+-- a number in front of the second part
 pub ascending_middle : (x : ℕ) (xs ys : List ℕ) → ascending (xs ++ x ∷ ys) ≡ inserted x (ascending (xs ++ ys))
 ascending_middle x [] ys = refl
 ascending_middle x (y ∷ xs) ys = ap (inserted y) (ascending_middle x xs ys) ∙ inserted_either y x (ascending (xs ++ ys))
+
+-- ---- lengths
+
+length-inserted : (x : ℕ) (ms : List ℕ) → length (inserted x ms) ≡ suc (length ms)
+length-inserted x [] = refl
+length-inserted x (m ∷ ms) = elim (cases_lt m x) [
+  | inl above ↦ ap length (inserted_later x m ms above) ∙ ap suc (length-inserted x ms)
+  | inr below ↦ ap length (inserted_first x m ms below)
+]
+
+pub length-ascending : (xs : List ℕ) → length (ascending xs) ≡ length xs
+length-ascending [] = refl
+length-ascending (x ∷ xs) = length-inserted x (ascending xs) ∙ ap suc (length-ascending xs)
+
+-- ---- a number that is there more than once
+
+-- a number above those of a run goes in after the run
+pub inserted_after : (x m n : ℕ) (ms : List ℕ) → m < x → inserted x (replicate n m ++ ms) ≡ replicate n m ++ inserted x ms
+inserted_after x m zero ms h = refl
+inserted_after x m (suc n) ms h = inserted_later x m (replicate n m ++ ms) h ∙ ap (λ ns. m ∷ ns) (inserted_after x m n ms h)
+
+pub inserted_before : (x m n : ℕ) (ms : List ℕ) → 1 ≤ n → x ≤ m → inserted x (replicate n m ++ ms) ≡ x ∷ replicate n m ++ ms
+inserted_before x m zero ms some h = absurd (omega arith)
+inserted_before x m (suc n) ms some h = inserted_first x m (replicate n m ++ ms) h
