@@ -18,3 +18,4 @@ pub mod Pieces
 pub mod Keeps
 pub mod Small
 pub mod Sequences
+pub mod InForce

@@ -30,29 +30,64 @@ SomeAnswer = (start : Place) (piece : List ℕ) → (answer : Result Statement R
 abbrev pub NeverBoth : Type 0
 NeverBoth = (start : Place) (piece : List ℕ) (read : Statement) (why : ReadRefused) → ReadsAs piece read → IsFault start piece why → ⊥
 
+abbrev pub RulesAreInForce : RulesRef → Type 0
+RulesAreInForce (rules_ref.Written rules) = Unit {0}
+RulesAreInForce (rules_ref.Bound name) = ⊥
+
+abbrev pub ClassIsInForce : ClassRef → Type 0
+ClassIsInForce (class_ref.Written symbol rules universe) = RulesAreInForce rules
+ClassIsInForce (class_ref.Bound name) = ⊥
+
+abbrev pub JobIsInForce : Job → Type 0
+JobIsInForce (job.Grammar class size) = ClassIsInForce class
+JobIsInForce (job.Ready family ground size) = ⊥
+
+-- is the form in force: to ask for nothing, or for all structures of a class that is written out with its rules
+abbrev pub FormIsInForce : Form → Type 0
+FormIsInForce form.Empty = Unit {0}
+FormIsInForce (form.Rules name rules) = ⊥
+FormIsInForce (form.Class name class) = ⊥
+FormIsInForce (form.Iterate name work cursor) = ⊥
+FormIsInForce (form.Count work) = ⊥
+FormIsInForce (form.List work) = JobIsInForce work
+FormIsInForce (form.Draw work) = ⊥
+FormIsInForce (form.Next name) = ⊥
+FormIsInForce (form.Finished name) = ⊥
+FormIsInForce (form.Cursor name) = ⊥
+FormIsInForce (form.Rest name) = ⊥
+FormIsInForce (form.Equations rules universe variable) = ⊥
+
+-- each statement that a piece reads as is in force
+abbrev pub ReadingsAreInForce : Type 0
+ReadingsAreInForce = (piece : List ℕ) (read : Statement) → ReadsAs piece read → FormIsInForce read.form
+
 -- do the rules pass the test, where they are written out
 abbrev pub RulesPass : (Rules → Bool) → RulesRef → Type 0
 RulesPass test (rules_ref.Written rules) = IsTrue (test rules)
-RulesPass test (rules_ref.Bound _) = Unit {0}
+RulesPass test (rules_ref.Bound name) = Unit {0}
 
 abbrev pub ClassPasses : (Rules → Bool) → ClassRef → Type 0
-ClassPasses test (class_ref.Written _ rules _) = RulesPass test rules
-ClassPasses test (class_ref.Bound _) = Unit {0}
+ClassPasses test (class_ref.Written symbol rules universe) = RulesPass test rules
+ClassPasses test (class_ref.Bound name) = Unit {0}
 
 abbrev pub JobPasses : (Rules → Bool) → Job → Type 0
-JobPasses test (job.Grammar class _) = ClassPasses test class
-JobPasses test (job.Ready _ _ _) = Unit {0}
+JobPasses test (job.Grammar class size) = ClassPasses test class
+JobPasses test (job.Ready family ground size) = Unit {0}
 
 -- do the rules that are written in a form pass the test
 abbrev pub FormPasses : (Rules → Bool) → Form → Type 0
-FormPasses test (form.Rules _ rules) = IsTrue (test rules)
-FormPasses test (form.Class _ class) = ClassPasses test class
-FormPasses test (form.Iterate _ work _) = JobPasses test work
+FormPasses test form.Empty = Unit {0}
+FormPasses test (form.Rules name rules) = IsTrue (test rules)
+FormPasses test (form.Class name class) = ClassPasses test class
+FormPasses test (form.Iterate name work cursor) = JobPasses test work
 FormPasses test (form.Count work) = JobPasses test work
 FormPasses test (form.List work) = JobPasses test work
 FormPasses test (form.Draw work) = JobPasses test work
-FormPasses test (form.Equations rules _ _) = RulesPass test rules
-FormPasses test _ = Unit {0}
+FormPasses test (form.Next name) = Unit {0}
+FormPasses test (form.Finished name) = Unit {0}
+FormPasses test (form.Cursor name) = Unit {0}
+FormPasses test (form.Rest name) = Unit {0}
+FormPasses test (form.Equations rules universe variable) = RulesPass test rules
 
 -- are the rules that are written in a form a specification
 abbrev pub FormKeeps : Form → Type 0
@@ -63,15 +98,22 @@ abbrev pub ReadingsKeep : Type 0
 ReadingsKeep = (piece : List ℕ) (read : Statement) → ReadsAs piece read → FormKeeps read.form
 
 abbrev pub JobIsSmall : Job → Type 0
-JobIsSmall (job.Grammar _ size) = size ≤ 1000
-JobIsSmall (job.Ready _ _ _) = Unit {0}
+JobIsSmall (job.Grammar class size) = size ≤ 1000
+JobIsSmall (job.Ready family ground size) = Unit {0}
 
 abbrev pub FormIsSmall : Form → Type 0
-FormIsSmall (form.Iterate _ work _) = JobIsSmall work
+FormIsSmall form.Empty = Unit {0}
+FormIsSmall (form.Rules name rules) = Unit {0}
+FormIsSmall (form.Class name class) = Unit {0}
+FormIsSmall (form.Iterate name work cursor) = JobIsSmall work
 FormIsSmall (form.Count work) = JobIsSmall work
 FormIsSmall (form.List work) = JobIsSmall work
 FormIsSmall (form.Draw work) = JobIsSmall work
-FormIsSmall _ = Unit {0}
+FormIsSmall (form.Next name) = Unit {0}
+FormIsSmall (form.Finished name) = Unit {0}
+FormIsSmall (form.Cursor name) = Unit {0}
+FormIsSmall (form.Rest name) = Unit {0}
+FormIsSmall (form.Equations rules universe variable) = Unit {0}
 
 -- the size in a statement that is read is at most 1000
 abbrev pub ReadingsAreSmall : Type 0

@@ -1,5 +1,5 @@
 //! Laws of what pieces read as.
-ghost use Rattle.spec_reader.specs.Laws.{OneReading, OneFault, SomeAnswer, NeverBoth, ReadingsKeep, ReadingsAreSmall, ReadingsHaveSequences};
+ghost use Rattle.spec_reader.specs.Laws.{OneReading, OneFault, SomeAnswer, NeverBoth, ReadingsAreInForce, ReadingsKeep, ReadingsAreSmall, ReadingsHaveSequences};
 
 /// A piece reads as at most one statement.
 pub fn a_piece_reads_as_one_statement()
@@ -17,9 +17,10 @@ pub fn a_piece_has_a_statement_or_a_fault()
     ensures never_both { NeverBoth }
 {}
 
-/// The rules in a statement that is read are a specification, its size is at most 1000, and each container in it is a
-/// Sequence.
+/// A statement that is read is in force, the rules in it are a specification, its size is at most 1000, and each
+/// container in it is a Sequence.
 pub fn what_is_read_keeps_the_facts_of_a_specification()
+    ensures in_force { ReadingsAreInForce }
     ensures keeps { ReadingsKeep }
     ensures small { ReadingsAreSmall }
     ensures sequences { ReadingsHaveSequences }
