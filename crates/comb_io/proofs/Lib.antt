@@ -1,4 +1,3 @@
-pub mod Counts
 pub mod Parts
 pub mod Results
 pub mod Written

@@ -34,7 +34,7 @@ AppendsBefore-end a b piece (x ∷ rest) so_far none = absurd (omega arith)
 pub AppendsBefore-stop : (a b c : Option (List ℕ)) (piece rest : List ℕ) → AppendsBefore a b piece rest → 0 < length rest → Keeps b c → AppendsProperPrefix a c piece
 AppendsBefore-stop a b c piece rest so_far some kept = record {
   count = length so_far.front;
-  short = let e : length piece ≡ length so_far.front + length rest = ap length (sym so_far.whole) ∙ length-append so_far.front rest in omega arith;
+  within = let e : length piece ≡ length so_far.front + length rest = ap length (sym so_far.whole) ∙ length-append so_far.front rest in omega arith;
   bytes = subst (Appends a c) (sym (take-append_seam so_far.front rest) ∙ ap (take (length so_far.front)) so_far.whole) (Appends-kept a b c so_far.front so_far.bytes kept);
 }
 

@@ -1,11 +1,11 @@
 -- Lemmas on lists of writes, for code that writes them part by part.
-use Rattle.std.proofs.Common.{◌≡◌, ℕ, ◌+◌, ◌<◌, ◌≤◌, zero, suc, List, [], ◌∷◌, ◌++◌, Option, length, take, refl, sym, ap, subst, arith, length-append}
-use Rattle.std.proofs.Math.Seq.{take-length, take-append-add}
+use Rattle.std.proofs.Common.{◌≡◌, ℕ, ◌+◌, ◌≤◌, zero, suc, List, [], ◌∷◌, ◌++◌, Option, length, take, refl, sym, ap, subst, arith, length-append}
+use Rattle.std.proofs.Math.Seq.{take-append-add}
 use Rattle.std.proofs.lemmas.List.{take-append-le}
 use Rattle.std.proofs.KnownBytes.{Appends-nil, Appends-trans}
 use Rattle.std.specs.Io.KnownBytes.{Appends}
-use Rattle.comb_io.specs.Parts.{AppendsPrefix, AppendsProperPrefix}
-use Rattle.comb_io.specs.Writes.{Write, ToOut, ToErr, outpart, errpart, to_out, to_err, Wrote, WrotePrefix, WroteProperPrefix}
+use Rattle.comb_io.specs.Parts.{AppendsPart}
+use Rattle.comb_io.specs.Writes.{Write, ToOut, ToErr, outpart, errpart, to_out, to_err, Wrote, WrotePart, WrotePrefix, WroteProperPrefix}
 
 pub outpart-append : (ws vs : List Write) → outpart (ws ++ vs) ≡ outpart ws ++ outpart vs
 outpart-append [] vs = refl
@@ -41,14 +41,6 @@ pub length-to_err : (bs : List ℕ) → length (to_err bs) ≡ length bs
 length-to_err [] = refl
 length-to_err (b ∷ bs) = ap suc (length-to_err bs)
 
-pub to_out-append : (bs cs : List ℕ) → to_out (bs ++ cs) ≡ to_out bs ++ to_out cs
-to_out-append [] cs = refl
-to_out-append (b ∷ bs) cs = ap (λ l. ToOut b ∷ l) (to_out-append bs cs)
-
-pub to_err-append : (bs cs : List ℕ) → to_err (bs ++ cs) ≡ to_err bs ++ to_err cs
-to_err-append [] cs = refl
-to_err-append (b ∷ bs) cs = ap (λ l. ToErr b ∷ l) (to_err-append bs cs)
-
 pub take-to_out : (n : ℕ) (bs : List ℕ) → take n (to_out bs) ≡ to_out (take n bs)
 take-to_out zero bs = refl
 take-to_out (suc n) [] = refl
@@ -82,90 +74,41 @@ Wrote-to_err a d e bs h = record {
   to_errors = subst (Appends d e) (sym (errpart-to_err bs)) h;
 }
 
--- ---- a prefix
+-- ---- a part from the front
 
-pub WrotePrefix-nothing : (out err : Option (List ℕ)) (ws : List Write) → WrotePrefix out out err err ws
-WrotePrefix-nothing out err ws = record { count = 0; within = omega arith; wrote = Wrote-nil out err }
-
-pub WrotePrefix-whole : {a b d e : Option (List ℕ)} {ws : List Write} → Wrote a b d e ws → WrotePrefix a b d e ws
-WrotePrefix-whole {a = a} {b = b} {d = d} {e = e} {ws = ws} h = record {
-  count = length ws;
-  within = omega arith;
-  wrote = subst (Wrote a b d e) (sym (take-length ws)) h;
+-- what follows wasn't written either
+pub WrotePart-append : {unwritten : ℕ} {a b d e : Option (List ℕ)} {ws : List Write} (vs : List Write) → WrotePart unwritten a b d e ws → WrotePart unwritten a b d e (ws ++ vs)
+WrotePart-append {a = a} {b = b} {d = d} {e = e} {ws = ws} vs h = record {
+  count = h.count;
+  within = omega (arith, length-append ws vs, h.within);
+  wrote = let written : h.count ≤ length ws = omega (arith, h.within) in subst (Wrote a b d e) (sym (take-append-le h.count ws vs written)) h.wrote;
 }
 
-pub WrotePrefix-proper : {a b d e : Option (List ℕ)} {ws : List Write} → WroteProperPrefix a b d e ws → WrotePrefix a b d e ws
-WrotePrefix-proper h = record { count = h.count; within = omega (arith, h.short); wrote = h.wrote }
-
--- all so far, and then a prefix of what follows
-pub WrotePrefix-after : {a b c d e f : Option (List ℕ)} {ws vs : List Write} → Wrote a b d e ws → WrotePrefix b c e f vs → WrotePrefix a c d f (ws ++ vs)
-WrotePrefix-after {a = a} {b = b} {c = c} {d = d} {e = e} {f = f} {ws = ws} {vs = vs} so_far more = record {
+-- all so far, and then a part of what follows
+pub WrotePart-after : {unwritten : ℕ} {a b c d e f : Option (List ℕ)} {ws vs : List Write} → Wrote a b d e ws → WrotePart unwritten b c e f vs → WrotePart unwritten a c d f (ws ++ vs)
+WrotePart-after {a = a} {b = b} {c = c} {d = d} {e = e} {f = f} {ws = ws} {vs = vs} so_far more = record {
   count = length ws + more.count;
   within = omega (arith, length-append ws vs, more.within);
   wrote = subst (Wrote a c d f) (sym (take-append-add ws vs more.count)) (Wrote-append so_far more.wrote);
 }
 
--- a prefix is one of a longer list too
-pub WrotePrefix-append : {a b d e : Option (List ℕ)} {ws : List Write} (vs : List Write) → WrotePrefix a b d e ws → WrotePrefix a b d e (ws ++ vs)
-WrotePrefix-append {a = a} {b = b} {d = d} {e = e} {ws = ws} vs h = record {
-  count = h.count;
-  within = omega (arith, length-append ws vs, h.within);
-  wrote = subst (Wrote a b d e) (sym (take-append-le h.count ws vs h.within)) h.wrote;
-}
-
-pub WrotePrefix-to_out : (a b e : Option (List ℕ)) (bs : List ℕ) → AppendsPrefix a b bs → WrotePrefix a b e e (to_out bs)
-WrotePrefix-to_out a b e bs h = record {
+pub WrotePart-to_out : {unwritten : ℕ} (a b e : Option (List ℕ)) (bs : List ℕ) → AppendsPart unwritten a b bs → WrotePart unwritten a b e e (to_out bs)
+WrotePart-to_out a b e bs h = record {
   count = h.count;
   within = omega (arith, length-to_out bs, h.within);
   wrote = subst (Wrote a b e e) (sym (take-to_out h.count bs)) (Wrote-to_out a b e (take h.count bs) h.bytes);
 }
 
-pub WrotePrefix-to_err : (a d e : Option (List ℕ)) (bs : List ℕ) → AppendsPrefix d e bs → WrotePrefix a a d e (to_err bs)
-WrotePrefix-to_err a d e bs h = record {
+pub WrotePart-to_err : {unwritten : ℕ} (a d e : Option (List ℕ)) (bs : List ℕ) → AppendsPart unwritten d e bs → WrotePart unwritten a a d e (to_err bs)
+WrotePart-to_err a d e bs h = record {
   count = h.count;
   within = omega (arith, length-to_err bs, h.within);
   wrote = subst (Wrote a a d e) (sym (take-to_err h.count bs)) (Wrote-to_err a d e (take h.count bs) h.bytes);
 }
 
--- ---- a proper prefix
+pub WrotePrefix-nothing : (out err : Option (List ℕ)) (ws : List Write) → WrotePrefix out out err err ws
+WrotePrefix-nothing out err ws = record { count = 0; within = omega arith; wrote = Wrote-nil out err }
 
-pub WroteProperPrefix-nothing : (out err : Option (List ℕ)) (ws : List Write) → 0 < length ws → WroteProperPrefix out out err err ws
-WroteProperPrefix-nothing out err ws some = record { count = 0; short = some; wrote = Wrote-nil out err }
-
--- all so far, and then a proper prefix of what follows
-pub WroteProperPrefix-after : {a b c d e f : Option (List ℕ)} {ws vs : List Write} → Wrote a b d e ws → WroteProperPrefix b c e f vs → WroteProperPrefix a c d f (ws ++ vs)
-WroteProperPrefix-after {a = a} {b = b} {c = c} {d = d} {e = e} {f = f} {ws = ws} {vs = vs} so_far more = record {
-  count = length ws + more.count;
-  short = omega (arith, length-append ws vs, more.short);
-  wrote = subst (Wrote a c d f) (sym (take-append-add ws vs more.count)) (Wrote-append so_far more.wrote);
-}
-
--- a proper prefix is one of a longer list too
-pub WroteProperPrefix-append : {a b d e : Option (List ℕ)} {ws : List Write} (vs : List Write) → WroteProperPrefix a b d e ws → WroteProperPrefix a b d e (ws ++ vs)
-WroteProperPrefix-append {a = a} {b = b} {d = d} {e = e} {ws = ws} vs h = record {
-  count = h.count;
-  short = omega (arith, length-append ws vs, h.short);
-  wrote = let within : h.count ≤ length ws = omega (arith, h.short) in subst (Wrote a b d e) (sym (take-append-le h.count ws vs within)) h.wrote;
-}
-
--- a prefix is a proper one of a longer list
-pub WroteProperPrefix-prefix : {a b d e : Option (List ℕ)} {ws : List Write} (vs : List Write) → WrotePrefix a b d e ws → 0 < length vs → WroteProperPrefix a b d e (ws ++ vs)
-WroteProperPrefix-prefix {a = a} {b = b} {d = d} {e = e} {ws = ws} vs h some = record {
-  count = h.count;
-  short = omega (arith, length-append ws vs, h.within);
-  wrote = subst (Wrote a b d e) (sym (take-append-le h.count ws vs h.within)) h.wrote;
-}
-
-pub WroteProperPrefix-to_out : (a b e : Option (List ℕ)) (bs : List ℕ) → AppendsProperPrefix a b bs → WroteProperPrefix a b e e (to_out bs)
-WroteProperPrefix-to_out a b e bs h = record {
-  count = h.count;
-  short = omega (arith, length-to_out bs, h.short);
-  wrote = subst (Wrote a b e e) (sym (take-to_out h.count bs)) (Wrote-to_out a b e (take h.count bs) h.bytes);
-}
-
-pub WroteProperPrefix-to_err : (a d e : Option (List ℕ)) (bs : List ℕ) → AppendsProperPrefix d e bs → WroteProperPrefix a a d e (to_err bs)
-WroteProperPrefix-to_err a d e bs h = record {
-  count = h.count;
-  short = omega (arith, length-to_err bs, h.short);
-  wrote = subst (Wrote a a d e) (sym (take-to_err h.count bs)) (Wrote-to_err a d e (take h.count bs) h.bytes);
-}
+-- a proper prefix is a prefix
+pub WrotePrefix-proper : {a b d e : Option (List ℕ)} {ws : List Write} → WroteProperPrefix a b d e ws → WrotePrefix a b d e ws
+WrotePrefix-proper h = record { count = h.count; within = omega (arith, h.within); wrote = h.wrote }

@@ -1,5 +1,5 @@
 -- What a program writes, byte by byte, to its two sinks.
-use Rattle.std.specs.Prelude.{ℕ, ◌<◌, ◌≤◌, List, [], ◌∷◌, Option, length, take}
+use Rattle.std.specs.Prelude.{ℕ, ◌+◌, ◌≤◌, List, [], ◌∷◌, Option, length, take}
 use Rattle.std.specs.Io.KnownBytes.{Appends}
 
 -- one byte to the output, or to the error output
@@ -34,14 +34,16 @@ pub record Wrote (out out' err err' : Option (List ℕ)) (ws : List Write) : Typ
   pub to_output : Appends out out' (outpart ws)
   pub to_errors : Appends err err' (errpart ws)
 
--- the first of these writes were made, and maybe all
-pub record WrotePrefix (out out' err err' : Option (List ℕ)) (ws : List Write) : Type 0 where
+-- the first of these writes were made, and at least so many weren't
+pub record WrotePart (unwritten : ℕ) (out out' err err' : Option (List ℕ)) (ws : List Write) : Type 0 where
   pub count : ℕ
-  pub within : count ≤ length ws
+  pub within : count + unwritten ≤ length ws
   pub wrote : Wrote out out' err err' (take count ws)
 
+-- the first of these writes were made, and maybe all
+abbrev pub WrotePrefix : Option (List ℕ) → Option (List ℕ) → Option (List ℕ) → Option (List ℕ) → List Write → Type 0
+WrotePrefix out out' err err' ws = WrotePart 0 out out' err err' ws
+
 -- the first of these writes were made, and not all
-pub record WroteProperPrefix (out out' err err' : Option (List ℕ)) (ws : List Write) : Type 0 where
-  pub count : ℕ
-  pub short : count < length ws
-  pub wrote : Wrote out out' err err' (take count ws)
+abbrev pub WroteProperPrefix : Option (List ℕ) → Option (List ℕ) → Option (List ℕ) → Option (List ℕ) → List Write → Type 0
+WroteProperPrefix out out' err err' ws = WrotePart 1 out out' err err' ws

@@ -1,6 +1,6 @@
 //! A source and a sink in memory that move a few bytes at a time and fail at chosen calls.
 ghost use Rattle.std.specs.Prelude.{◌≡◌, ℕ, ◌<◌, ◌≤◌, ◌+◌, ◌-◌, ◌^◌, ◌↔◌, List, [], min, length, Some, Ok, Err, IsErr, IsTrue, OnOk, IfOk, IfErr};
-ghost use Rattle.std.specs.Bool.{OnTrue};
+ghost use Rattle.std.specs.Bool.{OnTrue, OnFalse};
 ghost use Rattle.std.specs.Io.KnownBytes.{ReadConsumes, WriteAppends};
 ghost use Rattle.comb_io.specs.Faults.{HasCause, HasSinkCause, Rose};
 ghost use Rattle.comb_io.specs.Memory.{after_call, is_failing};
@@ -57,6 +57,7 @@ impl CallCounter {
         ensures counted { self.new ≡ after_call self.old }
         ensures later { self.old.faults ≤ self.new.faults }
         ensures rose { OnTrue result (Rose self.old.faults self.new.faults) }
+        ensures kept { OnFalse result (self.new.faults ≡ self.old.faults) }
     {
         let fails = self.next_fails();
         self.number = self.number.saturating_add(1);

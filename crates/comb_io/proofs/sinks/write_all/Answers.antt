@@ -1,4 +1,4 @@
-use Rattle.std.proofs.Common.{arith, sym, subst, ◌<◌, length}
+use Rattle.std.proofs.Common.{arith, sym, subst, ◌∙◌, ◌<◌, length}
 use Rattle.std.proofs.lemmas.Grind.{common_steps}
 use Rattle.comb_io.proofs.Parts.{AppendsBefore, AppendsBefore-more, AppendsBefore-stop, AppendsBefore-some, take-rest}
 use Rattle.comb_io.proofs.Results.{OnErr-of}
@@ -16,6 +16,6 @@ loop-rest-preserved g c =
     let more = AppendsBefore-more _ _ _ _ _ c.in_ok-count.count c.loop-rest.invariant.so_far c.in_ok-count.ensures.bytes in
     record {
       so_far = subst (AppendsBefore _ _ _) (sym (take-rest c.in_ok-count.count c.loop-rest.rest.now)) more;
-      later = omega arith;
+      kept = c.in_ok-count.ensures.cause.kept ∙ c.loop-rest.invariant.kept;
       untouched = λ none. absurd (AppendsBefore-some _ _ _ _ c.loop-rest.invariant.so_far some none);
     }
