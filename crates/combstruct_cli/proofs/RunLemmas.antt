@@ -6,7 +6,7 @@ use Rattle.std.proofs.Common.{◌≡◌, ◌≢◌, ◌+◌, [], ◌∷◌, leng
 use Rattle.std.specs.Io.KnownBytes.{Appends}
 use Rattle.comb_io.specs.Parts.{AppendsProperPrefix}
 use Rattle.comb_io.specs.Writes.{Write, Wrote, WrotePrefix, WroteProperPrefix}
-use Rattle.comb_io.proofs.Written.{Wrote-append, Wrote-to_out, Wrote-to_err, WrotePrefix-append, WrotePrefix-after, WrotePrefix-proper, WroteProperPrefix-append, WroteProperPrefix-after, WroteProperPrefix-to_out, WroteProperPrefix-to_err}
+use Rattle.comb_io.proofs.Written.{Wrote-append, Wrote-to_out, Wrote-to_err, WrotePart-append, WrotePart-after, WrotePart-to_out, WrotePart-to_err, WrotePrefix-proper}
 use Rattle.combstruct_cli.specs.declared.run.Outcome.{Outcome}
 use Rattle.combstruct_cli.specs.declared.run.Outcome.TheVariants.{Done, Refused}
 use Rattle.combstruct_cli.specs.declared.run.RunFault.{RunFault}
@@ -19,18 +19,18 @@ use Rattle.combstruct_cli.specs.Refusals.{refusal_line}
 module _ (out out' err err' : Option (List ℕ)) where
   -- a fault in the first part ends both
   pub Makes-first : (first second : Effect) (fault : RunFault) → Makes out out' err err' first (Err fault) → Makes out out' err err' (followed_by first second) (Err fault)
-  Makes-first first second Output part = WroteProperPrefix-append second.writes part
-  Makes-first first second Memory part = WrotePrefix-append second.writes part
+  Makes-first first second Output part = WrotePart-append second.writes part
+  Makes-first first second Memory part = WrotePart-append second.writes part
 
   -- the output failed while a text was written
   pub Makes-writing : (text : List ℕ) (fault : RunFault) → AppendsProperPrefix out out' text → Makes out out' err err (writing text) (Err fault)
-  Makes-writing text Output part = WroteProperPrefix-to_out out out' err text part
-  Makes-writing text Memory part = WrotePrefix-proper (WroteProperPrefix-to_out out out' err text part)
+  Makes-writing text Output part = WrotePart-to_out out out' err text part
+  Makes-writing text Memory part = WrotePrefix-proper (WrotePart-to_out out out' err text part)
 
   -- the error output failed while a line was written
   pub Makes-refusing : (line : ℕ) (refusal : Refusal) (fault : RunFault) → AppendsProperPrefix err err' (refusal_line line refusal) → Makes out out err err' (refusing line refusal) (Err fault)
-  Makes-refusing line refusal Output part = WroteProperPrefix-to_err out err err' (refusal_line line refusal) part
-  Makes-refusing line refusal Memory part = WrotePrefix-proper (WroteProperPrefix-to_err out err err' (refusal_line line refusal) part)
+  Makes-refusing line refusal Output part = WrotePart-to_err out err err' (refusal_line line refusal) part
+  Makes-refusing line refusal Memory part = WrotePrefix-proper (WrotePart-to_err out err err' (refusal_line line refusal) part)
 
 either-outcome_of : (first second : Bool) → either (outcome_of first) (outcome_of second) ≡ outcome_of (first || second)
 either-outcome_of true second = refl
@@ -39,8 +39,8 @@ either-outcome_of false second = refl
 module _ (out mid out' err mid_err err' : Option (List ℕ)) (first second : Effect) (outcome : Outcome) (made : Makes out mid err mid_err first (Ok outcome)) where
   -- a fault in the second part
   pub Makes-second : (fault : RunFault) → Makes mid out' mid_err err' second (Err fault) → Makes out out' err err' (followed_by first second) (Err fault)
-  Makes-second Output part = WroteProperPrefix-after made.0 part
-  Makes-second Memory part = WrotePrefix-after made.0 part
+  Makes-second Output part = WrotePart-after made.0 part
+  Makes-second Memory part = WrotePart-after made.0 part
 
   -- both parts
   pub Makes-both : (other : Outcome) → Makes mid out' mid_err err' second (Ok other) → Makes out out' err err' (followed_by first second) (Ok (either outcome other))
