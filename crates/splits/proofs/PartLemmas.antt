@@ -1,5 +1,5 @@
 -- The list of parts: from the part that follows on it has what comes after a part.
-use Rattle.std.proofs.Common.{◌≡◌, ◌⊎◌, ℕ, ◌≤◌, Bool, true, false, not, cond, List, [], ◌∷◌, filter, length, nat_le, Option, Some, None, refl, sym, ap, ◌∙◌, subst, inl, inr, Less, nat_cmp}
+use Rattle.std.proofs.Common.{◌≡◌, ◌⊎◌, ℕ, ◌≤◌, true, false, not, List, [], ◌∷◌, filter, length, nat_le, Option, Some, None, sym, ap, ◌∙◌, subst, inl, inr, Less, nat_cmp}
 use Rattle.std.specs.Cmp.Lexicographic.{slice_cmp}
 use Rattle.std.proofs.lemmas.Bool.{and_parts, and_from, leb-true, le-leb, cond-true, cond-false, cases_Bool, false_from_ne_true, not_from_false, not_from_true}
 use Rattle.lists.specs.Ascending.{ascends_above}

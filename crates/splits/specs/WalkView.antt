@@ -1,11 +1,17 @@
 -- What contracts see of a walk over parts.
 use Rattle.std.specs.Prelude.{◌≡◌, ℕ, List, [], Option, Some, None, IsTrue}
 use Rattle.std.specs.Option.{option_map}
+use Rattle.spec_syntax.specs.declared.statement.Universe.{Universe}
 use Rattle.struct_model.specs.declared.supplies.Supply.{Supply}
 use Rattle.struct_model.specs.declared.supplies.Supply.TheVariants.{Zeros, Labels}
 use Rattle.struct_model.specs.SupplyView.{supply_labels, supply_universe, is_in_order}
 use Rattle.splits.specs.Splits.{Split}
 use Rattle.splits.specs.Parts.{parts, from_part, IsPart}
+
+-- the universe of the supply that is split, and the splits that are still to come
+pub record Walk : Type 0 where
+  pub universe : Universe
+  pub left : List Split
 
 -- the labels of a supply of labels, and none of zeros
 abbrev pub given_labels : Supply → List ℕ
@@ -19,6 +25,10 @@ split_into part rest = record { part = supply_labels part; rest = supply_labels 
 -- the splits of the supply from the coming part on
 abbrev pub to_come : Supply → ℕ → ℕ → Option Supply → List Split
 to_come supply low high coming = from_part (option_map supply_labels coming) (parts low high (supply_labels supply))
+
+-- a walk over parts of the supply, with the coming part
+abbrev pub walk_of : Supply → ℕ → ℕ → Option Supply → Walk
+walk_of supply low high coming = record { universe = supply_universe supply; left = to_come supply low high coming }
 
 -- the coming part, if there is one, is a part of the supply whose length lies within the bounds, and of its universe
 abbrev pub IsToCome : Supply → ℕ → ℕ → Option Supply → Type 0

@@ -1,6 +1,6 @@
 //! The ways to split a supply of labels in a part and what remains.
 //!
-//! A contract sees a walk over them as the list of those that are still to come.
+//! A contract sees of a walk over them the universe of the supply, and the list of those that are still to come.
 #![tactic(auto)]
 
 mod labelled;

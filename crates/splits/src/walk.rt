@@ -13,7 +13,7 @@ use std::mem;
 use struct_model::{Labels, Supply};
 
 /// A walk over the parts of a supply whose length lies within bounds, in lexicographic order, a prefix first, each with
-/// what remains of the supply. A contract sees it as the list of those that are still to come.
+/// what remains of the supply. A contract sees the universe of the supply, and the list of those that are still to come.
 #[derive(Drop)]
 pub struct PartWalk {
     supply: Supply,
@@ -23,15 +23,15 @@ pub struct PartWalk {
 }
 
 impl Model for PartWalk {
-    ghost use Rattle.std.specs.Prelude.{List, IsTrue};
-    ghost use Rattle.splits.specs.Splits.{Split};
+    ghost use Rattle.std.specs.Prelude.{IsTrue};
+    ghost use Rattle.splits.specs.WalkView.{Walk};
 
-    ghost Value = { List Split };
+    ghost Value = { Walk };
 
     ghost use Rattle.struct_model.specs.SupplyView.{is_in_order};
-    ghost use Rattle.splits.specs.WalkView.{to_come, IsToCome};
+    ghost use Rattle.splits.specs.WalkView.{walk_of, IsToCome};
 
-    ghost view = { λ a. to_come a.supply a.low a.high a.coming };
+    ghost view = { λ a. walk_of a.supply a.low a.high a.coming };
 
     ghost invariant = { λ a. IsTrue (is_in_order a.supply) × IsToCome a.supply a.low a.high a.coming };
 }
@@ -44,7 +44,8 @@ impl PartWalk {
     /// Memory may be wanting.
     pub fn first(alloc: Global, supply: Supply, low: u32, high: u32) -> Result<PartWalk, AllocError>
         requires { IsTrue (is_in_order supply) }
-        ensures { IfOk result (λ walk. walk ≡ parts low high (supply_labels supply)) }
+        ensures universe { IfOk result (λ walk. walk.universe ≡ supply_universe supply) }
+        ensures all { IfOk result (λ walk. walk.left ≡ parts low high (supply_labels supply)) }
     {
         let coming = first_part(alloc, &supply, low, high)?;
         Ok(PartWalk {
@@ -70,7 +71,8 @@ impl PartWalk {
         requires in_order { IsTrue (is_in_order supply) }
         requires part_in_order { IsTrue (is_in_order part.now) }
         requires part { IsPart (supply_labels part.now) (parts low high (supply_labels supply)) }
-        ensures { IfOk result (λ walk. walk ≡ after (supply_labels part.now) (parts low high (supply_labels supply))) }
+        ensures universe { IfOk result (λ walk. walk.universe ≡ supply_universe supply) }
+        ensures later { IfOk result (λ walk. walk.left ≡ after (supply_labels part.now) (parts low high (supply_labels supply))) }
     {
         let coming = next_part(alloc, &supply, part, low, high)?;
         Ok(PartWalk {
@@ -87,12 +89,14 @@ impl PartWalk {
     ///
     /// Where memory is wanting the walk is as before.
     pub fn next(&mut self, alloc: Global) -> Result<Option<(Supply, Supply)>, AllocError>
-        ensures some { IfOk result (λ next. IfSome next (λ split. self.old ≡ split_into split.0 split.1 ∷ self.new)) }
+        ensures some { IfOk result (λ next. IfSome next (λ split. self.old.left ≡ split_into split.0 split.1 ∷ self.new.left)) }
         ensures part_in_order { IfOk result (λ next. IfSome next (λ split. IsTrue (is_in_order split.0))) }
         ensures rest_in_order { IfOk result (λ next. IfSome next (λ split. IsTrue (is_in_order split.1))) }
-        ensures universe { IfOk result (λ next. IfSome next (λ split. supply_universe split.0 ≡ supply_universe split.1)) }
-        ensures none { IfOk result (λ next. IfNone next (self.old ≡ [])) }
-        ensures at_end { IfOk result (λ next. IfNone next (self.new ≡ [])) }
+        ensures part_universe { IfOk result (λ next. IfSome next (λ split. supply_universe split.0 ≡ self.old.universe)) }
+        ensures rest_universe { IfOk result (λ next. IfSome next (λ split. supply_universe split.1 ≡ self.old.universe)) }
+        ensures universe { self.new.universe ≡ self.old.universe }
+        ensures none { IfOk result (λ next. IfNone next (self.old.left ≡ [])) }
+        ensures at_end { IfOk result (λ next. IfNone next (self.new.left ≡ [])) }
         ensures err { OnErr result (self.new ≡ self.old) }
     {
         let Some(part) = &self.coming else {

@@ -6,7 +6,7 @@ use Rattle.combstruct_cli.specs.Columns.{on_split}
 use Rattle.combstruct_cli.proofs.components.list_splits.Given as goal
 
 abbrev pub invariant-loop-walk : goal.invariant-loop-walk
-invariant-loop-walk l = l.lists.items ++ flat_map (on_split l.firsts l.others) l.walk ≡ flat_map (on_split l.firsts l.others) (parts l.shortest l.longest (supply l.fn.universe l.n))
+invariant-loop-walk l = l.lists.items ++ flat_map (on_split l.firsts l.others) l.walk.left ≡ flat_map (on_split l.firsts l.others) (parts l.shortest l.longest (supply l.fn.universe l.n))
 
 abbrev pub decreases-loop-walk : goal.decreases-loop-walk
-decreases-loop-walk l = length l.walk
+decreases-loop-walk l = length l.walk.left
