@@ -9,3 +9,4 @@ pub mod Distinct
 pub mod Ascending
 pub mod AscendingAbove
 pub mod NumberOrder
+pub mod Orders

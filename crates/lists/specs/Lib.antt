@@ -1,2 +1,3 @@
 pub mod Enumeration
 pub mod Ascending
+pub mod Orders

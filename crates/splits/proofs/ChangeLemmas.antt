@@ -1,7 +1,7 @@
 -- The search for the change from a part to the next one, and the search for what remains, label by label.
-use Rattle.std.proofs.Common.{◌≡◌, ℕ, ◌+◌, ◌-◌, ◌<◌, ◌≤◌, max, Bool, true, false, cond, List, [], ◌∷◌, ◌++◌, take, drop, length, get_or, nat_le, nat_lt, Option, Some, None, refl, sym, ap, ◌∙◌, subst, inl, inr, arith, append_assoc}
+use Rattle.std.proofs.Common.{◌≡◌, ℕ, ◌+◌, ◌-◌, ◌<◌, ◌≤◌, max, Bool, true, false, cond, List, [], ◌∷◌, ◌++◌, take, drop, length, get_or, nat_le, nat_lt, Option, Some, None, refl, sym, ap, ◌∙◌, subst, arith, append_assoc}
 use Rattle.std.specs.Option.{option_map, option_or, IfSome}
-use Rattle.std.proofs.lemmas.Bool.{cases_lt, lt-ltb, le-ltb, le-leb, lt-leb, cond-true, cond-false}
+use Rattle.std.proofs.lemmas.Bool.{lt-ltb, le-ltb, le-leb, lt-leb, cond-true, cond-false}
 use Rattle.std.proofs.lemmas.List.{drop_more, drop_all, take_more, append-nil, length-drop}
 use Rattle.lists.specs.Ascending.{ascends_above}
 use Rattle.lists.specs.Enumeration.{IsIn}
@@ -9,7 +9,7 @@ use Rattle.splits.specs.declared.labelled.Change.{Change}
 use Rattle.splits.specs.Splits.{splits}
 use Rattle.splits.specs.Parts.{parts, after, from_part, IsPart}
 use Rattle.splits.specs.Changes.{changed}
-use Rattle.splits.proofs.Selections.{split_at, remaining, remaining_same, remaining_other, selection_splits, split_selects}
+use Rattle.splits.proofs.Selections.{split_at, remaining, selection_splits, split_selects}
 use Rattle.splits.proofs.NextPart.{Follows, front, fewest, following, following_same, following_other, following_is}
 use Rattle.splits.proofs.PartLemmas.{part_split, part_fits, fitting_part, after_is}
 
@@ -18,29 +18,6 @@ use Rattle.splits.proofs.PartLemmas.{part_split, part_fits, fitting_part, after_
 remaining_none : (part : List ℕ) → remaining part [] ≡ []
 remaining_none [] = refl
 remaining_none (p ∷ ps) = refl
-
--- a label of the part is passed
-pub remaining_taken : (part xs rest all : List ℕ) (i k : ℕ) → i < length xs → k < length part → get_or part k 0 ≡ get_or xs i 0
-    → rest ++ remaining (drop k part) (drop i xs) ≡ all → rest ++ remaining (drop (k + 1) part) (drop (i + 1) xs) ≡ all
-remaining_taken part xs rest all i k here there same so_far =
-    ap (λ (ns : List ℕ). rest ++ ns) (sym (remaining_same (get_or part k 0) (get_or xs i 0) (drop (k + 1) part) (drop (i + 1) xs) same))
-    ∙ (ap (λ (ns : List ℕ). rest ++ remaining ns (get_or xs i 0 ∷ drop (i + 1) xs)) (sym (drop_more part k 0 there))
-    ∙ (ap (λ (ns : List ℕ). rest ++ remaining (drop k part) ns) (sym (drop_more xs i 0 here)) ∙ so_far))
-
--- another label is kept
-pub remaining_kept : (part xs rest all : List ℕ) (i k : ℕ) → i < length xs → (k < length part → get_or part k 0 ≡ get_or xs i 0 → ⊥)
-    → rest ++ remaining (drop k part) (drop i xs) ≡ all → (rest ++ get_or xs i 0 ∷ []) ++ remaining (drop k part) (drop (i + 1) xs) ≡ all
-remaining_kept part xs rest all i k here other so_far =
-    append_assoc rest (get_or xs i 0 ∷ []) (remaining (drop k part) (drop (i + 1) xs))
-    ∙ (ap (λ (ns : List ℕ). rest ++ ns) (sym kept) ∙ (ap (λ (ns : List ℕ). rest ++ remaining (drop k part) ns) (sym (drop_more xs i 0 here)) ∙ so_far))
-  where
-    kept : remaining (drop k part) (get_or xs i 0 ∷ drop (i + 1) xs) ≡ get_or xs i 0 ∷ remaining (drop k part) (drop (i + 1) xs)
-    kept = elim (cases_lt k (length part)) [
-      | inl there ↦
-          subst (λ (ns : List ℕ). remaining ns (get_or xs i 0 ∷ drop (i + 1) xs) ≡ get_or xs i 0 ∷ remaining ns (drop (i + 1) xs)) (sym (drop_more part k 0 there))
-          (remaining_other (get_or part k 0) (get_or xs i 0) (drop (k + 1) part) (drop (i + 1) xs) (other there))
-      | inr past ↦ subst (λ (ns : List ℕ). remaining ns (get_or xs i 0 ∷ drop (i + 1) xs) ≡ get_or xs i 0 ∷ remaining ns (drop (i + 1) xs)) (sym (drop_all k part past)) refl
-    ]
 
 pub remaining_all : (part xs rest all : List ℕ) (i k : ℕ) → length xs ≤ i → rest ++ remaining (drop k part) (drop i xs) ≡ all → rest ≡ all
 remaining_all part xs rest all i k past so_far =
@@ -84,17 +61,6 @@ take_none (x ∷ xs) = refl
 drop_none : (xs : List ℕ) → drop 0 xs ≡ xs
 drop_none [] = refl
 drop_none (x ∷ xs) = refl
-
-pub sought_none : (low high : ℕ) (labels part : List ℕ) → Sought low high labels part 0 0 None
-sought_none low high labels part = record {
-  within = omega arith;
-  next = behind_none (take 0 part) (following (low - 0) (high - 0) (drop 0 part) (drop 0 labels)) (take_none part) ∙ same (low - 0) (high - 0) (drop 0 part) (drop 0 labels) (omega arith) (omega arith) (drop_none part) (drop_none labels);
-  keeps = tt;
-  takes = tt;
-}
-  where
-    same : (l h : ℕ) (ps ns : List ℕ) → l ≡ low → h ≡ high → ps ≡ part → ns ≡ labels → following l h ps ns ≡ following low high part labels
-    same l h ps ns e f p n = cc
 
 -- ---- the steps of the search
 

@@ -120,9 +120,6 @@ module _ (label : ℕ) (labels : List ℕ) (least : AtLeast label labels) (risen
   cases : (split : Split) → MakesUp whole split → (split ≡ none_taken) ⊎ (Taking split ⊎ Leaving split)
   cases split s = cases_at split.part split.rest s
 
-  Begun : Split → Type 0
-  Begun split = MakesUp labels split × (begins_above label split ≡ true)
-
   begun_above : (split : Split) → begins_above label split ≡ true → (n : ℕ) × (ns : List ℕ) × (split.part ≡ n ∷ ns) × (label < n)
   begun_above split h = begun_at split.part h
     where

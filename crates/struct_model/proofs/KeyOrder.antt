@@ -43,9 +43,6 @@ stops low xs (Some run) h f = cc
 same_number : (m : ℕ) → nat_cmp m m ≡ Equal
 same_number m = tied_itself nat_cmp_total m
 
-lesser_number : (m n : ℕ) → m < n → nat_cmp m n ≡ Less
-lesser_number m n h = grind (arith, nat_tests)
-
 greater_number : (m n : ℕ) → n < m → nat_cmp m n ≡ Greater
 greater_number m n h = grind (arith, nat_tests)
 

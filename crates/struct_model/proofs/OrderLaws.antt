@@ -3,15 +3,17 @@ use Rattle.std.proofs.Common.{◌≡◌, ◌↔◌, ℕ, List, [], ◌∷◌, re
 use Rattle.std.specs.Cmp.{IsTotalOrder}
 use Rattle.std.specs.declared.cmp.Ordering.{Ordering}
 use Rattle.std.specs.declared.cmp.Ordering.TheVariants.{Less, Equal, Greater}
-use Rattle.std.specs.Ordering.{nat_cmp, ordering_then, ordering_reverse}
+use Rattle.std.specs.Ordering.{nat_cmp, ordering_then}
 use Rattle.std.specs.Cmp.Lexicographic.{slice_cmp}
 use Rattle.std.proofs.lemmas.Cmp.{nat_list_cmp_total, lists_total, on_total, tied_itself}
+use Rattle.lists.specs.Orders.{IsStrictTotalOrder, EqualIsSame}
+use Rattle.lists.proofs.Orders.{then_first, then_second, lists_same, strict}
 use Rattle.struct_model.specs.declared.tree.Form5.{Form5}
 use Rattle.struct_model.specs.declared.tree.Form5.TheVariants as form
 use Rattle.struct_model.specs.Structure.{Structure, Eps, Atom, Named, Alt, Tup, Structures, no_parts, more_parts, part_list, key}
 use Rattle.struct_model.specs.Order.{form_rank, key_order, order_within, order_of_parts, order, list_order}
 use Rattle.struct_model.specs.Listing.{Before}
-use Rattle.struct_model.specs.Laws.{IsStrictTotalOrder, EqualIsSame, ListBefore, ComparesInside}
+use Rattle.struct_model.specs.Laws.{ListBefore, ComparesInside}
 use Rattle.struct_model.proofs.KeyOrder.{is_same}
 
 then_Equal : (o : Ordering) → ordering_then o Equal ≡ o
@@ -78,23 +80,6 @@ list_order_total = lists_total order_total
 
 -- ---- Equal is the same
 
-then_first : (a b : Ordering) → ordering_then a b ≡ Equal → a ≡ Equal
-then_first Less b e = cc
-then_first Equal b e = refl
-then_first Greater b e = cc
-
-then_second : (a b : Ordering) → ordering_then a b ≡ Equal → b ≡ Equal
-then_second Less b e = cc
-then_second Equal b e = e
-then_second Greater b e = cc
-
-lists_same : {X : Type 0} (compare : X → X → Ordering) → ((x y : X) → compare x y ≡ Equal → x ≡ y) → (xs ys : List X) → slice_cmp compare xs ys ≡ Equal → xs ≡ ys
-lists_same compare same [] [] e = refl
-lists_same compare same [] (y ∷ ys) e = cc
-lists_same compare same (x ∷ xs) [] e = cc
-lists_same compare same (x ∷ xs) (y ∷ ys) e =
-    λ i. same x y (then_first (compare x y) (slice_cmp compare xs ys) e) i ∷ lists_same compare same xs ys (then_second (compare x y) (slice_cmp compare xs ys) e) i
-
 numbers_same : (x y : ℕ) → nat_cmp x y ≡ Equal → x ≡ y
 numbers_same x y e = is_same x y (sym e)
 
@@ -159,21 +144,6 @@ pub rest_decides : (s t : Structure) (keys answer : Ordering) → keys ≡ key_o
 rest_decides s t keys answer h e g = g ∙ ap (λ o. ordering_then o (order_within s t)) (sym e ∙ h)
 
 -- ---- a strict total order
-
-abbrev BeforeBy : {X : Type 0} → (X → X → Ordering) → X → X → Type 0
-BeforeBy compare x y = compare x y ≡ Less
-
-connected_by : {X : Type 0} (compare : X → X → Ordering) → IsTotalOrder compare → EqualIsSame compare → (x y : X) (o : Ordering) → compare x y ≡ o → (compare x y ≡ Less → ⊥) → (compare y x ≡ Less → ⊥) → x ≡ y
-connected_by compare total equal x y Less e h g = absurd (h e)
-connected_by compare total equal x y Equal e h g = equal.same x y e
-connected_by compare total equal x y Greater e h g = absurd (g (total.antisymm y x ∙ ap ordering_reverse e))
-
-strict : {X : Type 0} (compare : X → X → Ordering) → IsTotalOrder compare → EqualIsSame compare → IsStrictTotalOrder (BeforeBy compare)
-strict compare total equal = record {
-  irreflexive = λ x e. let f : compare x x ≡ Equal = equal.itself x in cc;
-  transitive = total.trans;
-  connected = λ x y. connected_by compare total equal x y (compare x y) refl;
-}
 
 pub order_strict : IsStrictTotalOrder Before
 order_strict = strict order order_total order_equal

@@ -16,10 +16,6 @@ pub record IsLeft (ss ts xs ys : List Structure) : Type 0 where
   pub nodes : nodes_of_parts (parts_of xs) ≤ nodes_of_parts (parts_of ss)
   pub lengths : length ss + length ys ≡ length ts + length xs
 
--- a walk that begins
-pub IsLeft_all : (ss ts : List Structure) → IsLeft ss ts ss ts
-IsLeft_all ss ts = record { order = refl; nodes = omega arith; lengths = omega arith }
-
 -- one more pair that is equal
 pub IsLeft_more : (ss ts xs ys xs' ys' : List Structure) (s t : Structure) → IsLeft ss ts xs ys → xs ≡ s ∷ xs' → ys ≡ t ∷ ys' → order s t ≡ Equal → IsLeft ss ts xs' ys'
 IsLeft_more ss ts xs ys xs' ys' s t left e f equal = record {

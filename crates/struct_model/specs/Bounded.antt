@@ -2,7 +2,8 @@
 use Rattle.std.specs.Prelude.{ℕ, zero, suc, ◌+◌, ◌*◌, max, Bool, ◌&&◌, List, [], ◌∷◌, ◌++◌, length, map}
 use Rattle.std.specs.List.{filter, flat_map}
 use Rattle.std.specs.Ordering.{match_ordering}
-use Rattle.spec_syntax.specs.Expression.{Expression, Union, Prod, expression_list}
+use Rattle.spec_syntax.specs.Expression as expr
+use Rattle.spec_syntax.specs.Expression.{Expression, expression_list}
 use Rattle.spec_syntax.specs.Rules.{Rules, all_nodes}
 use Rattle.spec_syntax.specs.Grammar.{Grammar}
 use Rattle.struct_model.specs.declared.tree.Form5.{Form5}
@@ -24,9 +25,12 @@ greatest (n ∷ ns) = max n (greatest ns)
 
 -- the number of arguments of a Union or a Prod
 abbrev pub argument_count : Expression → ℕ
-argument_count (Union es) = length (expression_list es)
-argument_count (Prod es) = length (expression_list es)
-argument_count e = 0
+argument_count expr.Epsilon = 0
+argument_count expr.Atom = 0
+argument_count (expr.Name name) = 0
+argument_count (expr.Union es) = length (expression_list es)
+argument_count (expr.Prod es) = length (expression_list es)
+argument_count (expr.Many container e card) = 0
 
 -- the greatest number of arguments in the rules
 abbrev pub most_arguments : Rules → ℕ

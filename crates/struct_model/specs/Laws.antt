@@ -1,24 +1,12 @@
 -- The laws of the order and of listings.
 use Rattle.std.specs.Prelude.{◌≡◌, ℕ, List}
-use Rattle.std.specs.declared.cmp.Ordering.{Ordering}
-use Rattle.std.specs.declared.cmp.Ordering.TheVariants.{Less, Equal}
+use Rattle.std.specs.declared.cmp.Ordering.TheVariants.{Less}
 use Rattle.std.specs.Ordering.{nat_cmp, ordering_then}
 use Rattle.spec_syntax.specs.Expression.{Expression}
 use Rattle.spec_syntax.specs.Grammar.{Grammar}
 use Rattle.struct_model.specs.Structure.{Structure, Named, Alt, Structures, part_list}
 use Rattle.struct_model.specs.Order.{key_order, order_of_parts, order, list_order}
 use Rattle.struct_model.specs.Listing.{Lists}
-
--- nothing stands before itself, before is passed on, and where neither of two stands before the other they are equal
-pub record IsStrictTotalOrder {X : Type 0} (R : X → X → Type 0) : Type 0 where
-  pub irreflexive : (x : X) → R x x → ⊥
-  pub transitive : (x y z : X) → R x y → R y z → R x z
-  pub connected : (x y : X) → (R x y → ⊥) → (R y x → ⊥) → x ≡ y
-
--- the comparison answers Equal of the same alone
-pub record EqualIsSame {X : Type 0} (compare : X → X → Ordering) : Type 0 where
-  pub same : (x y : X) → compare x y ≡ Equal → x ≡ y
-  pub itself : (x : X) → compare x x ≡ Equal
 
 abbrev pub ListBefore : List Structure → List Structure → Type 0
 ListBefore ss ts = list_order ss ts ≡ Less

@@ -1,5 +1,5 @@
 -- Which structures an expression has, and which a class has at a size.
-use Rattle.std.specs.Prelude.{ℕ, zero, suc, Bool, true, false, not, ◌&&◌, ◌||◌, nat_eq, nat_lt, List, [], ◌∷◌, length, replicate, Option, Some, None}
+use Rattle.std.specs.Prelude.{ℕ, zero, suc, Bool, true, false, not, ◌&&◌, ◌||◌, nat_eq, nat_lt, List, length, replicate, Option, Some, None}
 use Rattle.std.specs.Option.{option_map_or}
 use Rattle.std.specs.List.{list_all}
 use Rattle.std.specs.Cmp.Lexicographic.{pointwise}
@@ -18,11 +18,19 @@ use Rattle.struct_model.specs.Order.{is_sorted, is_strictly_sorted, is_least_rot
 
 abbrev pub is_epsilon : Expression → Bool
 is_epsilon expr.Epsilon = true
-is_epsilon e = false
+is_epsilon expr.Atom = false
+is_epsilon (expr.Name name) = false
+is_epsilon (expr.Union es) = false
+is_epsilon (expr.Prod es) = false
+is_epsilon (expr.Many container e card) = false
 
 abbrev pub is_atom : Expression → Bool
+is_atom expr.Epsilon = false
 is_atom expr.Atom = true
-is_atom e = false
+is_atom (expr.Name name) = false
+is_atom (expr.Union es) = false
+is_atom (expr.Prod es) = false
+is_atom (expr.Many container e card) = false
 
 -- is n the number of the rule with the name, and has its right side the property
 abbrev pub names : Grammar → List ℕ → ℕ → (Expression → Bool) → Bool
@@ -45,7 +53,7 @@ argument (more_expressions e es) (suc zero) = Some e
 argument (more_expressions e es) (suc (suc k)) = argument es (suc k)
 
 abbrev mutual
-  -- is the structure one of the expression
+  -- is the structure one of the expression; a structure that was made in another way isn't
   pub is_of : Grammar → Expression → Structure → Bool
   is_of g expr.Epsilon (Eps x) = nat_eq x 0
   is_of g expr.Atom (Atom x l) = nat_eq x 0 && is_label g.universe l
@@ -59,7 +67,15 @@ abbrev mutual
   is_of g (expr.Many kind.PowerSet e card) (Tup form.PowerSet ss) = admits card (length (part_list ss)) && is_strictly_sorted (part_list ss) && are_of g e ss
   is_of g (expr.Many kind.Cycle e card) (Tup form.Cycle ss) =
       is_labelled g.universe && admits card (length (part_list ss)) && nat_lt 0 (length (part_list ss)) && is_least_rotation (part_list ss) && are_of g e ss
-  is_of g e s = false
+  is_of g expr.Epsilon s = false
+  is_of g expr.Atom s = false
+  is_of g (expr.Name name) s = false
+  is_of g (expr.Union es) s = false
+  is_of g (expr.Prod es) s = false
+  is_of g (expr.Many kind.Sequence e card) s = false
+  is_of g (expr.Many kind.Set e card) s = false
+  is_of g (expr.Many kind.PowerSet e card) s = false
+  is_of g (expr.Many kind.Cycle e card) s = false
 
   -- is each component one of the expression
   pub are_of : Grammar → Expression → Structures → Bool
@@ -70,7 +86,8 @@ abbrev mutual
   pub are_of_each : Grammar → Expressions → Structures → Bool
   are_of_each g no_expressions no_parts = true
   are_of_each g (more_expressions e es) (more_parts s ss) = is_of g e s && are_of_each g es ss
-  are_of_each g es ss = false
+  are_of_each g no_expressions (more_parts s ss) = false
+  are_of_each g (more_expressions e es) no_parts = false
 
 -- the labels of a structure of size n: n zeros, or 1 to n
 abbrev pub supply : Universe → ℕ → List ℕ

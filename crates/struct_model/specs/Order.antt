@@ -37,7 +37,11 @@ abbrev mutual
   order_within (Named x s) (Named y t) = ordering_then (nat_cmp x y) (order_within s t)
   order_within (Alt j s) (Alt k t) = ordering_then (nat_cmp j k) (order_within s t)
   order_within (Tup f ss) (Tup g ts) = ordering_then (nat_cmp (form_rank f) (form_rank g)) (order_of_parts ss ts)
-  order_within s t = nat_cmp (rank s) (rank t)
+  order_within (Eps x) t = nat_cmp (rank (Eps x)) (rank t)
+  order_within (Atom x l) t = nat_cmp (rank (Atom x l)) (rank t)
+  order_within (Named x s) t = nat_cmp (rank (Named x s)) (rank t)
+  order_within (Alt k s) t = nat_cmp (rank (Alt k s)) (rank t)
+  order_within (Tup f ss) t = nat_cmp (rank (Tup f ss)) (rank t)
 
   -- the order of components from the left, a prefix first
   pub order_of_parts : Structures → Structures → Ordering

@@ -69,7 +69,14 @@ fn compare_within(s: &Struct, t: &Struct) -> Ordering
                 difference => difference,
             }
         }
-        _ => rank(s).cmp(&rank(t)),
+        (
+            Shape::Eps(_)
+            | Shape::Atom(_, _)
+            | Shape::Named(_, _)
+            | Shape::Alt(_, _)
+            | Shape::Tup(_, _),
+            _,
+        ) => rank(s).cmp(&rank(t)),
     }
 }
 

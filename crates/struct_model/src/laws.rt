@@ -1,8 +1,9 @@
 //! Laws of the definitions. Each is what a function without a body ensures.
 ghost use Rattle.std.specs.Cmp.{IsTotalOrder};
+ghost use Rattle.lists.specs.Orders.{IsStrictTotalOrder, EqualIsSame};
 ghost use Rattle.struct_model.specs.Order.{order, list_order};
 ghost use Rattle.struct_model.specs.Listing.{Before};
-ghost use Rattle.struct_model.specs.Laws.{IsStrictTotalOrder, EqualIsSame, ListBefore, ComparesInside, HasOneListing};
+ghost use Rattle.struct_model.specs.Laws.{ListBefore, ComparesInside, HasOneListing};
 
 /// The order of structures is a strict total order: two structures neither of which is before the other are equal.
 pub fn order_is_total()

@@ -29,35 +29,7 @@ mod tests {
     use std::test::Fail;
 
     #[test]
-    fn a_list_of_three(rt: HostRuntime) -> Result<(), Fail> {
-        let mut parts = Structs::new(rt.alloc());
-        parts.push(Struct {
-            shape: Shape::Atom(0, 2),
-        })?;
-        parts.push(Struct {
-            shape: Shape::Eps(3),
-        })?;
-        let atom = Struct {
-            shape: Shape::Atom(0, 1),
-        };
-        parts.push(Struct {
-            shape: Shape::Alt(2, Box::new(rt.alloc(), atom)?),
-        })?;
-        let list = Struct {
-            shape: Shape::Tup(Form5::Sequence, parts),
-        };
-        assert_eq!(rt; size(&list), 2);
-        let copied = copy(rt.alloc(), &list)?;
-        assert!(rt; compare(&list, &copied) == Ordering::Equal);
-        let named = Struct {
-            shape: Shape::Named(1, Box::new(rt.alloc(), copied)?),
-        };
-        assert!(rt; compare(&named, &list) == Ordering::Less);
-        Ok(())
-    }
-
-    #[test]
-    fn labels_from_left_to_right(rt: HostRuntime) -> Result<(), Fail> {
+    fn a_list_of_four(rt: HostRuntime) -> Result<(), Fail> {
         let mut parts = Structs::new(rt.alloc());
         parts.push(Struct {
             shape: Shape::Atom(0, 3),
@@ -80,8 +52,19 @@ mod tests {
         let list = Struct {
             shape: Shape::Tup(Form5::Set, parts),
         };
+        assert_eq!(rt; size(&list), 3);
         let found = labels(rt.alloc(), &list)?;
         assert_eq!(rt; found.as_slice(), [3, 1, 3].as_slice());
+        let copied = copy(rt.alloc(), &list)?;
+        assert!(rt; compare(&list, &copied) == Ordering::Equal);
+        let named = Struct {
+            shape: Shape::Named(1, Box::new(rt.alloc(), copied)?),
+        };
+        assert!(rt; compare(&named, &list) == Ordering::Less);
+        let atom = Struct {
+            shape: Shape::Atom(7, 2),
+        };
+        assert!(rt; compare(&atom, &list) == Ordering::Greater);
         Ok(())
     }
 
@@ -94,8 +77,6 @@ mod tests {
         let ascending = Labels::from_slice(rt.alloc(), [1, 2, 3].as_slice())?;
         assert!(rt; labelled == Supply::Labels(ascending));
         assert_eq!(rt; labelled.len(), 3);
-        let none = Supply::whole(rt.alloc(), Universe::Labelled, 0)?;
-        assert_eq!(rt; none.len(), 0);
         Ok(())
     }
 
@@ -105,25 +86,6 @@ mod tests {
         order_goes_inside();
         list_order_is_total();
         listing_is_unique();
-        Ok(())
-    }
-
-    #[test]
-    fn the_least_label_first(rt: HostRuntime) -> Result<(), Fail> {
-        let mut parts = Structs::new(rt.alloc());
-        parts.push(Struct {
-            shape: Shape::Atom(0, 2),
-        })?;
-        parts.push(Struct {
-            shape: Shape::Atom(0, 1),
-        })?;
-        let pair = Struct {
-            shape: Shape::Tup(Form5::Cycle, parts),
-        };
-        let second = Struct {
-            shape: Shape::Atom(7, 2),
-        };
-        assert!(rt; compare(&second, &pair) == Ordering::Greater);
         Ok(())
     }
 }
