@@ -57,8 +57,9 @@ close draft = close_on draft.pending draft
 
 -- the innermost expression that is not whole, where it is a container, has another bound
 abbrev pub rebound : (Bound → Bound) → List Compound → List Compound
+rebound change [] = []
+rebound change (Several former arguments ∷ pending) = Several former arguments ∷ pending
 rebound change (Container kind element bound ∷ pending) = Container kind element (change bound) ∷ pending
-rebound change pending = pending
 
 -- its bound has this comparison
 abbrev pub compared : Comparison → Draft → Draft
@@ -79,7 +80,11 @@ begin_at token (Some (head.Container kind)) draft = record draft { pending = Con
 -- the number that a token writes
 abbrev pub number_in : Token → Option ℕ
 number_in (token.Number digits) = Some (value digits)
-number_in _ = None
+number_in (token.Mark sign) = None
+number_in (token.Reserved keyword) = None
+number_in (token.Name text) = None
+number_in (token.Text text) = None
+number_in token.Stray = None
 
 -- what is built with a token that an item takes
 abbrev pub act : Item → Token → Draft → Draft
@@ -96,7 +101,13 @@ act item.Comparison token draft = option_map_or (λ comparison. compared compari
 act item.TurnedComparison token draft = option_map_or (λ comparison. compared (turned comparison) draft) (comparison_of token) draft
 act item.CardNumber token draft = option_map_or (λ number. numbered number draft) (number_in token) draft
 act item.Size token draft = option_map_or (λ number. record draft { size = number }) (number_in token) draft
-act _ token draft = draft
+act item.Class token draft = draft
+act item.ClassEnd token draft = draft
+act item.Rules token draft = draft
+act item.Rule token draft = draft
+act item.MoreRules token draft = draft
+act (item.Mark sign) token draft = draft
+act (item.Reserved keyword) token draft = draft
 
 -- has the innermost expression that is not whole an argument, if there is one
 abbrev pub is_filled : List Compound → Bool

@@ -3,39 +3,58 @@ use Rattle.std.specs.Prelude.{ℕ, Bool, true, false, ◌&&◌, nat_le, nat_lt, 
 use Rattle.spec_reader.specs.declared.refusal.Which.{Which}
 use Rattle.spec_reader.specs.declared.refusal.Which.TheVariants as which
 use Rattle.spec_reader.specs.declared.table.Role.{Role}
-use Rattle.spec_reader.specs.declared.table.Role.TheVariants.{RuleName, ExprStart, BoundStart, SizeNumber}
-use Rattle.spec_reader.specs.Tokens.{Token, Name, Number, value, text_of}
+use Rattle.spec_reader.specs.declared.table.Role.TheVariants.{Plain, RuleName, ExprStart, BoundStart, SizeNumber}
+use Rattle.spec_reader.specs.Tokens.{Token, Mark, Reserved, Name, Number, Text, Stray, value, text_of}
 use Rattle.std.specs.List.{list_any}
 use Rattle.spec_syntax.specs.Rules.{is_same_name}
 
 -- a word longer than 32 bytes
 abbrev pub is_long : Token → Bool
 is_long (Name text) = nat_lt 32 (length text)
-is_long _ = false
+is_long (Mark sign) = false
+is_long (Reserved keyword) = false
+is_long (Number digits) = false
+is_long (Text text) = false
+is_long Stray = false
 
 -- a number above n
 abbrev pub is_above : ℕ → Token → Bool
 is_above n (Number digits) = nat_lt n (value digits)
-is_above n _ = false
+is_above n (Mark sign) = false
+is_above n (Reserved keyword) = false
+is_above n (Name text) = false
+is_above n (Text text) = false
+is_above n Stray = false
 
 -- may the token be a size, or the number of a bound
 abbrev pub is_size : Role → Bool
+is_size Plain = false
+is_size RuleName = false
+is_size (ExprStart depth) = false
 is_size BoundStart = true
 is_size SizeNumber = true
-is_size _ = false
 
 abbrev pub is_rule_name : Role → Bool
+is_rule_name Plain = false
 is_rule_name RuleName = true
-is_rule_name _ = false
+is_rule_name (ExprStart depth) = false
+is_rule_name BoundStart = false
+is_rule_name SizeNumber = false
 
 abbrev pub is_expr_start : Role → Bool
-is_expr_start (ExprStart _) = true
-is_expr_start _ = false
+is_expr_start Plain = false
+is_expr_start RuleName = false
+is_expr_start (ExprStart depth) = true
+is_expr_start BoundStart = false
+is_expr_start SizeNumber = false
 
 -- an expression deeper than n
 abbrev pub is_deeper : ℕ → Role → Bool
+is_deeper n Plain = false
+is_deeper n RuleName = false
 is_deeper n (ExprStart depth) = nat_lt n depth
-is_deeper n _ = false
+is_deeper n BoundStart = false
+is_deeper n SizeNumber = false
 
 abbrev pub first_that_holds : List (Bool × Which) → Option Which
 first_that_holds [] = None
@@ -67,7 +86,10 @@ pub data Reason : Type 0 where
 
 abbrev pub repeat : List (List ℕ) → Role → Token → Option Reason
 repeat names RuleName token = if repeats names (text_of token) then Some (Repeats (text_of token)) else None
-repeat names _ token = None
+repeat names Plain token = None
+repeat names (ExprStart depth) token = None
+repeat names BoundStart token = None
+repeat names SizeNumber token = None
 
 abbrev pub limit_or : Option Which → Option Reason → Option Reason
 limit_or (Some which) reason = Some (Passes which)

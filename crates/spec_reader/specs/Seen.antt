@@ -3,7 +3,7 @@ use Rattle.std.specs.Prelude.{◌+◌, ◌≡◌, Option, Some, ◌∷◌, rever
 use Rattle.spec_reader.specs.declared.refusal.Fault.{Fault}
 use Rattle.spec_reader.specs.declared.refusal.Fault.TheVariants as fault
 use Rattle.spec_reader.specs.declared.table.Role.{Role}
-use Rattle.spec_reader.specs.declared.table.Role.TheVariants.{RuleName, ExprStart}
+use Rattle.spec_reader.specs.declared.table.Role.TheVariants.{Plain, RuleName, ExprStart, BoundStart, SizeNumber}
 use Rattle.spec_reader.specs.declared.seen.Seen.{Seen}
 use Rattle.spec_reader.specs.Tokens.{Token, text_of}
 use Rattle.spec_reader.specs.Limits.{Reason, Passes, Repeats, reason}
@@ -15,8 +15,10 @@ reason_in seen role token = reason (reverse seen.names) seen.expressions role to
 -- what was seen, and the token
 abbrev pub seen_after : Role → Token → Seen → Seen
 seen_after RuleName token seen = record seen { names = text_of token ∷ seen.names }
-seen_after (ExprStart _) token seen = record seen { expressions = seen.expressions + 1 }
-seen_after _ token seen = seen
+seen_after (ExprStart depth) token seen = record seen { expressions = seen.expressions + 1 }
+seen_after Plain token seen = seen
+seen_after BoundStart token seen = seen
+seen_after SizeNumber token seen = seen
 
 -- is it the fault that a reason names, or want of memory
 abbrev pub IsFaultFor : Option Reason → Fault → Type 0

@@ -118,7 +118,20 @@ role_of (item.Expr depth) = role.ExprStart depth
 role_of item.Bound = role.BoundStart
 role_of item.CardNumber = role.SizeNumber
 role_of item.Size = role.SizeNumber
-role_of _ = role.Plain
+role_of item.Statement = role.Plain
+role_of item.Class = role.Plain
+role_of item.Symbol = role.Plain
+role_of item.ClassEnd = role.Plain
+role_of item.Universe = role.Plain
+role_of item.Rules = role.Plain
+role_of item.MoreRules = role.Plain
+role_of (item.MoreExprs depth) = role.Plain
+role_of item.ContainerEnd = role.Plain
+role_of item.BoundEnd = role.Plain
+role_of item.Comparison = role.Plain
+role_of item.TurnedComparison = role.Plain
+role_of (item.Mark sign) = role.Plain
+role_of (item.Reserved keyword) = role.Plain
 
 -- is the item of a depth that is looked at
 abbrev pub is_shallow : Item → Bool

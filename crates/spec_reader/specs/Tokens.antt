@@ -89,7 +89,10 @@ keyword_text word.Composition = codes "Composition"
 abbrev pub text_of : Token → List ℕ
 text_of (Reserved keyword) = keyword_text keyword
 text_of (Name text) = text
-text_of _ = []
+text_of (Mark sign) = []
+text_of (Number digits) = []
+text_of (Text text) = []
+text_of Stray = []
 
 -- the reserved words
 abbrev pub keywords : List Keyword
@@ -175,4 +178,7 @@ value digits = fold with_digit 0 digits
 abbrev pub is_spelled : Token → Bool
 is_spelled (Name text) = is_word text
 is_spelled (Number digits) = list_all is_digit digits
-is_spelled _ = true
+is_spelled (Mark sign) = true
+is_spelled (Reserved keyword) = true
+is_spelled (Text text) = true
+is_spelled Stray = true

@@ -23,7 +23,7 @@ impl Region {
             (Region::Open, b'"') => Region::Quoted,
             (Region::Comment, b'\n') => Region::Open,
             (Region::Quoted, b'"' | b'\n') => Region::Open,
-            _ => self,
+            (Region::Open | Region::Comment | Region::Quoted, _) => self,
         }
     }
 
@@ -45,7 +45,7 @@ impl Region {
         match (self, byte) {
             (Region::Open, b';') => true,
             (Region::Open, b':') => !matches!(rest, [b'=', ..]),
-            _ => false,
+            (Region::Open | Region::Comment | Region::Quoted, _) => false,
         }
     }
 }

@@ -91,7 +91,8 @@ fn number_in(token: &Token<'_>) -> Option<u32>
 {
     match token {
         Token::Number(digits) => number(digits).map(|n| n as u32),
-        _ => None,
+        Token::Mark(_) | Token::Reserved(_) | Token::Name(_) | Token::Text(_) | Token::Stray =>
+            None,
     }
 }
 
@@ -235,7 +236,13 @@ impl Draft {
                     self.size = size;
                 }
             }
-            _ => {}
+            Item::Class
+            | Item::ClassEnd
+            | Item::Rules
+            | Item::Rule
+            | Item::MoreRules
+            | Item::Mark(_)
+            | Item::Reserved(_) => {}
         }
         Ok(())
     }

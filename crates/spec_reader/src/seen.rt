@@ -40,7 +40,8 @@ fn is_long(token: &Token<'_>) -> bool
 {
     match token {
         Token::Name(text) => text.len() > NAME_MAX,
-        _ => false,
+        Token::Mark(_) | Token::Reserved(_) | Token::Number(_) | Token::Text(_) | Token::Stray =>
+            false,
     }
 }
 
@@ -54,7 +55,8 @@ fn is_above(max: u128, token: &Token<'_>) -> bool
             Some(n) => n > max,
             None => true,
         },
-        _ => false,
+        Token::Mark(_) | Token::Reserved(_) | Token::Name(_) | Token::Text(_) | Token::Stray =>
+            false,
     }
 }
 
@@ -75,7 +77,11 @@ impl Seen {
             Role::RuleName if self.names.len() >= RULES_MAX => Some(Which::Rules),
             Role::ExprStart(_) if self.expressions >= NODES_MAX => Some(Which::Nodes),
             Role::ExprStart(depth) if depth > DEPTH_MAX => Some(Which::Depth),
-            _ => None,
+            Role::SizeNumber
+            | Role::BoundStart
+            | Role::RuleName
+            | Role::ExprStart(_)
+            | Role::Plain => None,
         }
     }
 
@@ -117,7 +123,7 @@ impl Seen {
                 self.names.push(name)?;
             }
             Role::ExprStart(_) => self.expressions += 1,
-            _ => {}
+            Role::BoundStart | Role::SizeNumber | Role::Plain => {}
         }
         Ok(())
     }

@@ -119,7 +119,20 @@ impl Item {
             Item::Expr(depth) => Role::ExprStart(depth),
             Item::Bound => Role::BoundStart,
             Item::CardNumber | Item::Size => Role::SizeNumber,
-            _ => Role::Plain,
+            Item::Statement
+            | Item::Class
+            | Item::Symbol
+            | Item::ClassEnd
+            | Item::Universe
+            | Item::Rules
+            | Item::MoreRules
+            | Item::MoreExprs(_)
+            | Item::ContainerEnd
+            | Item::BoundEnd
+            | Item::Comparison
+            | Item::TurnedComparison
+            | Item::Mark(_)
+            | Item::Reserved(_) => Role::Plain,
         }
     }
 }
@@ -162,7 +175,7 @@ impl Token<'_> {
         match self {
             Token::Reserved(keyword) => keyword.text(),
             Token::Name(text) => text,
-            _ => &[],
+            Token::Mark(_) | Token::Number(_) | Token::Text(_) | Token::Stray => &[],
         }
     }
 
