@@ -3,6 +3,7 @@ use Rattle.std.proofs.Common.{◌≡◌, ℕ, zero, suc, ◌+◌, ◌-◌, Bool,
 use Rattle.std.specs.Prelude.{if◌then◌else◌, ◌==◌, nat_eq, codes}
 use Rattle.std.specs.List.{list_all, prefix_len, take_while, starts_with}
 use Rattle.std.specs.Option.{option_map_or}
+use Rattle.std.proofs.lemmas.Bool.{and_parts}
 use Rattle.spec_syntax.specs.Word.{is_word_start, is_word_byte, is_digit, is_word}
 use Rattle.spec_syntax.specs.declared.statement.Statement.{Statement}
 use Rattle.spec_reader.specs.declared.token.Sign.{Sign}
@@ -86,10 +87,6 @@ on-items [] r next t expected goes spelled sound = cc
 on-items (i ∷ is) r next t expected goes spelled sound =
     on-row (step i t) i is r next t refl goes spelled (subst (λ items. Sound items r.seen r.draft) expected (sound-parts r sound))
 
-both : (a b : Bool) → (a && b) ≡ true → (a ≡ true) × (b ≡ true)
-both true b e = (refl, e)
-both false b e = cc
-
 -- a reader stays sound over a token that it goes on with
 goes-sound : (r next : Reader) (t : Token) → advance r t ≡ Goes next → is_spelled t ≡ true → is_sound r ≡ true → is_sound next ≡ true
 goes-sound r next t goes spelled sound = on-items r.expected r next t refl goes spelled sound
@@ -113,7 +110,7 @@ goes-on-keeping (Stops (Repeats name)) at more read answer = cc
 run-keeps : (ps : List Placed) (r : Reader) (end : ℕ) (read : Statement) → are_spelled ps ≡ true → is_sound r ≡ true → run r end ps ≡ Ok read → FormKeeps read.form
 run-keeps [] r end read spelled sound answer = ends-keeping r.expected r end read sound answer
 run-keeps (p ∷ ps) r end read spelled sound answer =
-    let parts = both (is_spelled p.token) (are_spelled ps) spelled in
+    let parts = and_parts (is_spelled p.token) (are_spelled ps) spelled in
     let next = goes-on-keeping (advance r p.token) p.at (λ after. run after end ps) read answer in
     run-keeps ps next.0 end read parts.1 (goes-sound r next.0 p.token next.1 parts.0 sound) next.2
 

@@ -10,10 +10,6 @@ use Rattle.spec_reader.specs.Tokens.{Token, text_of}
 use Rattle.spec_reader.specs.Table.{only_if}
 use Rattle.spec_reader.specs.Limits.{is_long, is_above, is_size, is_rule_name, is_expr_start, is_deeper, first_that_holds, tests, limit, limit_or, repeat, repeats, reason, Reason, Repeats}
 
-pub only_if-true : (b : Bool) (row other : List Item) → only_if b row ≡ Some other → b ≡ true
-only_if-true true row other e = refl
-only_if-true false row other e = cc
-
 none-holds : (tests : List (Bool × Which)) → first_that_holds tests ≡ None → list_all (λ test. not test.0) tests ≡ true
 none-holds [] e = refl
 none-holds ((true, which) ∷ tests) e = cc

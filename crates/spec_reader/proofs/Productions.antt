@@ -18,6 +18,7 @@ use Rattle.spec_reader.specs.declared.table.Former.TheVariants as former
 use Rattle.spec_reader.specs.declared.table.Comparison.{Comparison}
 use Rattle.spec_reader.specs.declared.table.Comparison.TheVariants as compare
 use Rattle.spec_reader.specs.declared.table.Role.TheVariants.{Plain}
+use Rattle.spec_reader.specs.declared.draft.BoundPart.TheVariants as part
 use Rattle.spec_reader.specs.declared.draft.Command.TheVariants as command
 use Rattle.spec_reader.specs.declared.draft.Compound.{Compound}
 use Rattle.spec_reader.specs.declared.draft.Compound.TheVariants.{Several, Container}
@@ -28,7 +29,7 @@ use Rattle.spec_reader.specs.Grammar.{Marked, BoundTree, ExprTree, ExprTrees, At
 use Rattle.spec_reader.specs.Meaning.{turned, expression_of, expressions_of_all, right_of, symbol_of, universe_of}
 use Rattle.spec_reader.specs.Table.{is_mark, is_reserved, is_name, is_number, head_of, comparison_of, arguments, only_if, more_or_end, step, role_of}
 use Rattle.spec_reader.specs.Table as table
-use Rattle.spec_reader.specs.Drafts.{put, close, unbounded, compared, numbered}
+use Rattle.spec_reader.specs.Drafts.{put, close, unbounded, rebind}
 use Rattle.spec_reader.proofs.TokenTests.{mark-is, reserved-is, name-is, digits_of, number-is, mark-same, reserved-same, Begins, head-begins, Compares, comparison-is, Names, universe-is}
 use Rattle.spec_reader.proofs.Walks.{Walks, walk-append, walk-under}
 
@@ -107,8 +108,8 @@ effect_of_exprs tree.no_more d = close d
 effect_of_exprs (tree.more e es) d = effect_of_exprs es (put (expression_of e) d)
 
 abbrev pub effect_of_bound : BoundTree → Draft → Draft
-effect_of_bound (tree.CardFirst c digits) d = numbered (value digits) (compared c d)
-effect_of_bound (tree.NumberFirst digits c) d = compared (turned c) (numbered (value digits) d)
+effect_of_bound (tree.CardFirst c digits) d = rebind (part.Number (value digits)) (rebind (part.Comparison c) d)
+effect_of_bound (tree.NumberFirst digits c) d = rebind (part.Comparison (turned c)) (rebind (part.Number (value digits)) d)
 
 abbrev pub effect_of_container_end : Option BoundTree → Draft → Draft
 effect_of_container_end None d = close d
@@ -144,9 +145,9 @@ effect (item.MoreExprs depth) t d = effect_of_exprs t d
 effect item.ContainerEnd t d = effect_of_container_end t d
 effect item.BoundEnd t d = close d
 effect item.Bound t d = effect_of_bound t d
-effect item.Comparison t d = compared t d
-effect item.TurnedComparison t d = compared (turned t) d
-effect item.CardNumber digits d = numbered (value digits) d
+effect item.Comparison t d = rebind (part.Comparison t) d
+effect item.TurnedComparison t d = rebind (part.Comparison (turned t)) d
+effect item.CardNumber digits d = rebind (part.Number (value digits)) d
 effect item.Size digits d = record d { size = value digits }
 effect (item.Mark s) t d = d
 effect (item.Reserved k) t d = d
@@ -204,12 +205,12 @@ over : (ms ns : List Marked) (i : Item) (ks js : List Item) (d e f : Draft) → 
 over ms ns i ks js d e f first second = walk-append ms ns (i ∷ ks) ks js d e f (walk-under ms (i ∷ []) [] ks d e first) second
 
 -- the table walks over a bound, and builds it
-reads-comparison : (c : Comparison) (d : Draft) → Walks (comparison c ∷ []) (item.Comparison ∷ []) d [] (compared c d)
+reads-comparison : (c : Comparison) (d : Draft) → Walks (comparison c ∷ []) (item.Comparison ∷ []) d [] (rebind (part.Comparison c) d)
 reads-comparison compare.Equal d = ([], refl, refl, (refl, refl))
 reads-comparison compare.AtMost d = ([], refl, refl, (refl, refl))
 reads-comparison compare.AtLeast d = ([], refl, refl, (refl, refl))
 
-reads-turned : (c : Comparison) (d : Draft) → Walks (comparison c ∷ []) (item.TurnedComparison ∷ []) d [] (compared (turned c) d)
+reads-turned : (c : Comparison) (d : Draft) → Walks (comparison c ∷ []) (item.TurnedComparison ∷ []) d [] (rebind (part.Comparison (turned c)) d)
 reads-turned compare.Equal d = ([], refl, refl, (refl, refl))
 reads-turned compare.AtMost d = ([], refl, refl, (refl, refl))
 reads-turned compare.AtLeast d = ([], refl, refl, (refl, refl))
@@ -226,7 +227,7 @@ reads-bound (tree.NumberFirst digits c) d = (
   refl,
   refl,
   over (comparison c ∷ []) (tree.word word.Card ∷ []) item.TurnedComparison (item.Reserved word.Card ∷ []) [] _ _ _
-      (reads-turned c (numbered (value digits) d)) ([], refl, refl, (refl, refl)),
+      (reads-turned c (rebind (part.Number (value digits)) d)) ([], refl, refl, (refl, refl)),
 )
 
 reads-container_end : (end : Option BoundTree) (d : Draft) → Walks (container_end end) (item.ContainerEnd ∷ []) d [] (effect_of_container_end end d)
@@ -237,6 +238,13 @@ reads-container_end (Some b) d = (
   refl,
   over (bound b) (tree.sign sign.CloseParen ∷ []) item.Bound (item.BoundEnd ∷ []) [] _ _ _ (reads-bound b d) ([], refl, refl, (refl, refl)),
 )
+
+-- the arguments in parentheses by the first one and the others
+several : (depth : ℕ) (first : ExprTree) (others : ExprTrees) (d e f : Draft) → Walks (expr (suc depth) first) (item.Expr (suc depth) ∷ []) d [] e
+    → Walks (more_exprs (suc depth) others) (item.MoreExprs (suc depth) ∷ []) e [] f
+    → Walks (tree.sign sign.OpenParen ∷ expr (suc depth) first ++ more_exprs (suc depth) others) (item.Mark sign.OpenParen ∷ item.Expr (suc depth) ∷ item.MoreExprs (suc depth) ∷ []) d [] f
+several depth first others d e f one rest =
+    ([], refl, refl, over (expr (suc depth) first) (more_exprs (suc depth) others) (item.Expr (suc depth)) (item.MoreExprs (suc depth) ∷ []) [] d e f one rest)
 
 -- the table walks over each tree, and builds it
 mutual
@@ -249,23 +257,13 @@ mutual
     item.Mark sign.OpenParen ∷ item.Expr (suc depth) ∷ item.MoreExprs (suc depth) ∷ [],
     refl,
     refl,
-    (
-      [],
-      refl,
-      refl,
-      over (expr (suc depth) first) (more_exprs (suc depth) others) (item.Expr (suc depth)) (item.MoreExprs (suc depth) ∷ []) [] _ _ _ (reads-expr (suc depth) first _) (reads-more (suc depth) others _),
-    ),
+    several depth first others _ _ _ (reads-expr (suc depth) first _) (reads-more (suc depth) others _),
   )
   reads-expr depth (tree.Prod first others) d = subst (λ e. Walks (expr depth (tree.Prod first others)) (item.Expr depth ∷ []) d [] e) (effect-prod first others d) (
     item.Mark sign.OpenParen ∷ item.Expr (suc depth) ∷ item.MoreExprs (suc depth) ∷ [],
     refl,
     refl,
-    (
-      [],
-      refl,
-      refl,
-      over (expr (suc depth) first) (more_exprs (suc depth) others) (item.Expr (suc depth)) (item.MoreExprs (suc depth) ∷ []) [] _ _ _ (reads-expr (suc depth) first _) (reads-more (suc depth) others _),
-    ),
+    several depth first others _ _ _ (reads-expr (suc depth) first _) (reads-more (suc depth) others _),
   )
   reads-expr depth (tree.Sequence element end) d = subst (λ e. Walks (expr depth (tree.Sequence element end)) (item.Expr depth ∷ []) d [] e) (effect-sequence element end d) (
     item.Mark sign.OpenParen ∷ item.Expr (suc depth) ∷ item.ContainerEnd ∷ [],

@@ -1,6 +1,7 @@
 -- What was seen is what stands before a token.
 use Rattle.std.proofs.Common.{◌≡◌, ℕ, ◌+◌, Bool, true, false, cond, ◌&&◌, Option, Some, None, List, [], ◌∷◌, ◌++◌, reverse, refl, sym, ap, ◌∙◌, append_assoc, append-nil, add-zero, arith}
 use Rattle.std.specs.Prelude.{is_none}
+use Rattle.std.proofs.lemmas.Bool.{and_parts}
 use Rattle.std.proofs.lemmas.List.{reverse-append, reverse-reverse}
 use Rattle.std.proofs.lemmas.List.Sums.{fold_push}
 use Rattle.spec_reader.specs.declared.table.Role.TheVariants as role
@@ -47,10 +48,6 @@ seen_of-push before role.SizeNumber t =
 pub reason_in-seen_of : (before : List Marked) (r : Role) (t : Token) → reason_in (seen_of before) r t ≡ reason_after before (record { role = r; token = t })
 reason_in-seen_of before r t = ap (λ names. reason names (expressions_in before) r t) (reverse-reverse (names_in before))
 
-both : (a b : Bool) → (a && b) ≡ true → (a ≡ true) × (b ≡ true)
-both true b e = (refl, e)
-both false b e = cc
-
 none-is : (o : Option Reason) → is_none o ≡ true → o ≡ None
 none-is None e = refl
 none-is (Some why) e = cc
@@ -58,7 +55,7 @@ none-is (Some why) e = cc
 -- the first token is at no fault, and the others are not
 pub pass-first : (before : List Marked) (m : Marked) (ms : List Marked) → pass_after before (m ∷ ms) ≡ true → (reason_after before m ≡ None) × (pass_after (before ++ m ∷ []) ms ≡ true)
 pass-first before m ms pass =
-    let parts = both (is_none (reason_after before m)) (pass_after (before ++ m ∷ []) ms) pass in
+    let parts = and_parts (is_none (reason_after before m)) (pass_after (before ++ m ∷ []) ms) pass in
     (none-is (reason_after before m) parts.0, parts.1)
 
 pub pass-push : (front before : List Marked) (m : Marked) → pass_after front before ≡ true → reason_after (front ++ before) m ≡ None → pass_after front (before ++ m ∷ []) ≡ true

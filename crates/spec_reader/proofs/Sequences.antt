@@ -1,6 +1,8 @@
 -- Each container in a statement that is read is a Sequence.
 use Rattle.std.proofs.Common.{◌≡◌, true, List, [], ◌∷◌, ◌++◌, map, refl, subst, arith}
 use Rattle.std.specs.List.{list_all}
+use Rattle.std.proofs.lemmas.Bool.{and_from}
+use Rattle.std.proofs.lemmas.List.Folds.{list_all-append}
 use Rattle.spec_syntax.specs.Expression.{Expression, preorder, preorder_of_all, is_sequence_at_most}
 use Rattle.spec_syntax.specs.Rules.{all_nodes, are_sequences}
 use Rattle.spec_syntax.specs.declared.statement.Statement.{Statement}
@@ -10,8 +12,7 @@ use Rattle.spec_reader.specs.Meaning.{expression_of, expressions_of_all, rule_of
 use Rattle.spec_reader.specs.Laws.{FormHasSequences, ReadingsHaveSequences}
 
 both : (es fs : List Expression) → list_all is_sequence_at_most es ≡ true → list_all is_sequence_at_most fs ≡ true → list_all is_sequence_at_most (es ++ fs) ≡ true
-both [] fs first second = second
-both (e ∷ es) fs first second = grind (arith, both es fs)
+both es fs first second = list_all-append is_sequence_at_most es fs ∙ and_from _ _ first second
 
 mutual
   expr-sequences : (t : ExprTree) → list_all is_sequence_at_most (preorder (expression_of t)) ≡ true

@@ -3,8 +3,10 @@ use Rattle.std.specs.Prelude.{if◌then◌else◌, is_some}
 use Rattle.std.specs.Option.{option_map_or}
 use Rattle.std.proofs.Common.{◌≡◌, ℕ, ◌+◌, Bool, true, false, ◌||◌, nat_le, Option, Some, None, List, [], ◌∷◌, ◌++◌, length, reverse, refl, sym, ap, ◌∙◌, subst, arith}
 use Rattle.std.specs.List.{list_all}
+use Rattle.std.proofs.lemmas.Bool.{and_from}
 use Rattle.std.proofs.lemmas.Bool.Decides.{nat_tests}
 use Rattle.std.proofs.lemmas.List.{reverse-append, length-reverse}
+use Rattle.std.proofs.lemmas.List.Folds.{list_all-append}
 use Rattle.spec_syntax.specs.Word.{is_word}
 use Rattle.spec_syntax.specs.Expression.{Epsilon, Atom, Name}
 use Rattle.spec_syntax.specs.declared.statement.Universe.{Universe}
@@ -207,10 +209,6 @@ distinct-push : (names : List (List ℕ)) (text : List ℕ) → are_distinct nam
 distinct-push [] text distinct fresh = refl
 distinct-push (name ∷ names) text distinct fresh = grind (arith, distinct-push names text, repeats-push names name text, same-sym text name)
 
-words-push : (names : List (List ℕ)) (text : List ℕ) → list_all is_word names ≡ true → is_word text ≡ true → list_all is_word (names ++ text ∷ []) ≡ true
-words-push [] text all here = grind (arith, here)
-words-push (name ∷ names) text all here = grind (arith, words-push names text)
-
 name-step : (seen : Seen) (t : Token) → is_word (text_of t) ≡ true → is_sound_seen seen ≡ true → reason_in seen role.RuleName t ≡ None → is_sound_seen (seen_after role.RuleName t seen) ≡ true
 name-step seen t spelled sound none =
     let text = text_of t in
@@ -218,7 +216,8 @@ name-step seen t spelled sound none =
     let fresh : repeats (reverse seen.names) text ≡ false = fresh-name (reverse seen.names) t passes.repeated in
     let joined : reverse (text ∷ seen.names) ≡ reverse seen.names ++ text ∷ [] = reverse-append (text ∷ []) seen.names in
     let distinct : are_distinct (reverse seen.names ++ text ∷ []) ≡ true = distinct-push (reverse seen.names) text (grind (arith, sound)) fresh in
-    let words : list_all is_word (reverse seen.names ++ text ∷ []) ≡ true = words-push (reverse seen.names) text (grind (arith, sound)) spelled in
+    let words : list_all is_word (reverse seen.names ++ text ∷ []) ≡ true =
+    list_all-append is_word (reverse seen.names) (text ∷ []) ∙ and_from _ _ (grind (arith, sound)) (and_from _ _ spelled refl) in
     let few : nat_le (length (text ∷ seen.names)) 64 ≡ true = grind (arith, nat_tests, passes.rules, length-reverse seen.names) in
     let small : nat_le seen.expressions 128 ≡ true = grind (arith, sound) in
     rw joined (grind (arith, distinct, words, few, small))
@@ -255,10 +254,6 @@ seen-step seen item.RightOfZ t row fits spelled sound none = expr-step seen 1 t 
 seen-step seen (item.Expr depth) t row fits spelled sound none = expr-step seen depth t sound none
 seen-step seen _ t row fits spelled sound none = sound
 
-list_all-append : (xs ys : List Item) → list_all is_shallow xs ≡ true → list_all is_shallow ys ≡ true → list_all is_shallow (xs ++ ys) ≡ true
-list_all-append [] ys front back = back
-list_all-append (x ∷ xs) ys front back = grind (arith, list_all-append xs ys)
-
 -- the parts of what a reader keeps
 pub record Sound (expected : List Item) (seen : Seen) (draft : Draft) : Type 0 where
   pub shallow : list_all is_shallow expected ≡ true
@@ -291,7 +286,7 @@ row-sound i rest found row t seen draft is fits none spelled sound =
     let front : are_shallow (Some row) ≡ true = ap are_shallow (sym (is ∙ fits)) ∙ step-shallow i t (grind (arith, sound.shallow)) passes.depth in
     let ready : row_ready (Some row) rest (act i t draft).pending ≡ true = ap (λ o. row_ready o rest (act i t draft).pending) (sym (is ∙ fits)) ∙ step-ready i t rest draft sound.ready in
     record {
-      shallow = list_all-append row rest front (grind (arith, sound.shallow));
+      shallow = list_all-append is_shallow row rest ∙ and_from _ _ front (grind (arith, sound.shallow));
       ready = ready;
       within = seen-step seen i t row (is ∙ fits) spelled sound.within none;
       holds = subst (λ n. Holds n (act i t draft)) (sym (weighed (role_of i) t seen)) (act-holds seen.expressions i t rest draft sound.holds sound.ready);

@@ -2,6 +2,7 @@
 use Rattle.std.proofs.Common.{◌≡◌, ℕ, ◌≤◌, Bool, true, false, ◌&&◌, nat_le, List, [], ◌∷◌, ◌++◌, length, length-append, IsTrue, refl, sym, ap, subst, ◌∙◌, arith, reverse, append_assoc, sum_by}
 use Rattle.std.specs.Prelude.{zip}
 use Rattle.std.proofs.lemmas.List.{reverse-append, length-reverse}
+use Rattle.std.proofs.lemmas.List.Folds.{list_all-append, list_any-append}
 use Rattle.std.proofs.lemmas.List.Sums.{sum_by-cons, sum_by-append}
 use Rattle.std.specs.List.{list_all, list_any}
 use Rattle.std.proofs.lemmas.Bool.Decides.{nat_tests}
@@ -13,27 +14,15 @@ use Rattle.spec_reader.specs.Limits.{repeats}
 use Rattle.spec_reader.specs.Machine.{are_distinct, rules_from, is_sound}
 use Rattle.spec_reader.proofs.SoundLemmas.{sound-parts}
 
-list_any-front : {X : Type 0} (p : X → Bool) (xs ys : List X) → list_any p (xs ++ ys) ≡ false → list_any p xs ≡ false
-list_any-front p [] ys none = refl
-list_any-front p (x ∷ xs) ys none = grind (arith, list_any-front p xs ys)
-
-list_all-front : {X : Type 0} (p : X → Bool) (xs ys : List X) → list_all p (xs ++ ys) ≡ true → list_all p xs ≡ true
-list_all-front p [] ys all = refl
-list_all-front p (x ∷ xs) ys all = grind (arith, list_all-front p xs ys)
-
 distinct-front : (xs ys : Rules) → are_names_distinct (xs ++ ys) ≡ true → are_names_distinct xs ≡ true
 distinct-front [] ys distinct = refl
 distinct-front (x ∷ xs) ys distinct =
-    grind (arith, distinct-front xs ys, list_any-front (λ (other : List ℕ × Expression). is_same_name other.0 x.0) xs ys)
+    grind (arith, distinct-front xs ys, list_any-append (λ (other : List ℕ × Expression). is_same_name other.0 x.0) xs ys)
 
 nodes-front : (xs ys : Rules) → length (all_nodes xs) ≤ length (all_nodes (xs ++ ys))
 nodes-front [] ys = omega arith
 nodes-front (x ∷ xs) ys =
     omega (arith, nodes-front xs ys, length-append (preorder x.1) (all_nodes xs), length-append (preorder x.1) (all_nodes (xs ++ ys)))
-
-list_all-push : (xs : List Expression) (e : Expression) → list_all is_well_formed xs ≡ true → is_well_formed e ≡ true → list_all is_well_formed (xs ++ e ∷ []) ≡ true
-list_all-push [] e all here = grind (arith, here)
-list_all-push (x ∷ xs) e all here = grind (arith, list_all-push xs e)
 
 pub is_spec-front : (xs ys : Rules) → IsTrue (is_spec (xs ++ ys)) → IsTrue (is_spec xs)
 is_spec-front xs ys facts =
@@ -41,7 +30,7 @@ is_spec-front xs ys facts =
       arith,
       nat_tests,
       distinct-front xs ys,
-      list_all-front (λ (rule : List ℕ × Expression). is_word rule.0 && is_well_formed rule.1) xs ys,
+      list_all-append (λ (rule : List ℕ × Expression). is_word rule.0 && is_well_formed rule.1) xs ys,
       nodes-front xs ys,
       length-append xs ys,
     )
@@ -83,7 +72,7 @@ nodes-zip-le (n ∷ names) (e ∷ rights) = omega (arith, nodes-zip-le names rig
 
 all-reverse : (rights : List Expression) → list_all is_well_formed rights ≡ true → list_all is_well_formed (reverse rights) ≡ true
 all-reverse [] well = refl
-all-reverse (e ∷ rights) well = rw (reverse-append (e ∷ []) rights) (grind (arith, all-reverse rights, list_all-push (reverse rights) e))
+all-reverse (e ∷ rights) well = rw (reverse-append (e ∷ []) rights) (grind (arith, all-reverse rights, list_all-append is_well_formed (reverse rights) (e ∷ [])))
 
 sum-reverse : (rights : List Expression) → sum_by nodes (reverse rights) ≡ sum_by nodes rights
 sum-reverse [] = refl

@@ -15,6 +15,8 @@ use Rattle.spec_reader.specs.declared.draft.Command.TheVariants as command
 use Rattle.spec_reader.specs.declared.table.Comparison.{Comparison}
 use Rattle.spec_reader.specs.declared.table.Comparison.TheVariants as compare
 use Rattle.spec_reader.specs.declared.draft.Bound.{Bound}
+use Rattle.spec_reader.specs.declared.draft.BoundPart.{BoundPart}
+use Rattle.spec_reader.specs.declared.draft.BoundPart.TheVariants as part
 use Rattle.spec_reader.specs.declared.draft.Compound.{Compound}
 use Rattle.spec_reader.specs.declared.draft.Compound.TheVariants.{Several, Container}
 use Rattle.spec_reader.specs.declared.draft.Draft.{Draft}
@@ -30,6 +32,11 @@ empty = record { command = None; symbol = []; universe = universe.Unlabelled; ri
 -- the bound that every number of components keeps
 abbrev pub unbounded : Bound
 unbounded = record { comparison = compare.AtLeast; number = 0 }
+
+-- the bound with this part in place of its own
+abbrev pub with_part : BoundPart → Bound → Bound
+with_part (part.Comparison comparison) bound = record bound { comparison = comparison }
+with_part (part.Number number) bound = record bound { number = number }
 
 -- the expression that a compound is with what was read of it; a container without an element is none
 abbrev pub formed : Compound → Option Expression
@@ -61,13 +68,9 @@ rebound change [] = []
 rebound change (Several former arguments ∷ pending) = Several former arguments ∷ pending
 rebound change (Container kind element bound ∷ pending) = Container kind element (change bound) ∷ pending
 
--- its bound has this comparison
-abbrev pub compared : Comparison → Draft → Draft
-compared comparison draft = record draft { pending = rebound (λ bound. record bound { comparison = comparison }) draft.pending }
-
--- its bound has this number
-abbrev pub numbered : ℕ → Draft → Draft
-numbered number draft = record draft { pending = rebound (λ bound. record bound { number = number }) draft.pending }
+-- its bound has this part
+abbrev pub rebind : BoundPart → Draft → Draft
+rebind new draft = record draft { pending = rebound (with_part new) draft.pending }
 
 abbrev pub begin_at : Token → Option Head → Draft → Draft
 begin_at token None draft = draft
@@ -96,10 +99,10 @@ act (item.Expr depth) token draft = begin_at token (head_of token) draft
 act (item.MoreExprs depth) token draft = if is_mark sign.CloseParen token then close draft else draft
 act item.ContainerEnd token draft = if is_mark sign.CloseParen token then close draft else draft
 act item.BoundEnd token draft = if is_mark sign.CloseParen token then close draft else draft
-act item.Bound token draft = option_map_or (λ number. numbered number draft) (number_in token) draft
-act item.Comparison token draft = option_map_or (λ comparison. compared comparison draft) (comparison_of token) draft
-act item.TurnedComparison token draft = option_map_or (λ comparison. compared (turned comparison) draft) (comparison_of token) draft
-act item.CardNumber token draft = option_map_or (λ number. numbered number draft) (number_in token) draft
+act item.Bound token draft = option_map_or (λ number. rebind (part.Number number) draft) (number_in token) draft
+act item.Comparison token draft = option_map_or (λ comparison. rebind (part.Comparison comparison) draft) (comparison_of token) draft
+act item.TurnedComparison token draft = option_map_or (λ comparison. rebind (part.Comparison (turned comparison)) draft) (comparison_of token) draft
+act item.CardNumber token draft = option_map_or (λ number. rebind (part.Number number) draft) (number_in token) draft
 act item.Size token draft = option_map_or (λ number. record draft { size = number }) (number_in token) draft
 act item.Class token draft = draft
 act item.ClassEnd token draft = draft

@@ -5,7 +5,7 @@ ghost use Rattle.spec_reader.specs.Tokens.{is_spelled};
 ghost use Rattle.spec_reader.specs.Limits.{is_size, is_above};
 ghost use Rattle.spec_reader.specs.Meaning.{card_by};
 ghost use Rattle.spec_reader.specs.Table.{role_of, head_of};
-ghost use Rattle.spec_reader.specs.Drafts.{unbounded, number_in, put, close, compared, numbered, act, begin_at, empty};
+ghost use Rattle.spec_reader.specs.Drafts.{unbounded, number_in, put, close, with_part, rebind, act, begin_at, empty};
 
 use crate::stack::Stack;
 use crate::table::{Comparison, Former, Head, Item};
@@ -27,7 +27,32 @@ pub(crate) struct Bound {
     pub(crate) number: u32,
 }
 
+/// A part of a bound.
+#[derive(Clone, Copy, Debug)]
+pub(crate) enum BoundPart {
+    /// How the number of components is compared.
+    Comparison(Comparison),
+    /// The number that it is compared with.
+    Number(u32),
+}
+
 impl Bound {
+    /// The bound with this part in place of its own.
+    fn with(self, part: BoundPart) -> Bound
+        ensures { result ≡ with_part part self }
+    {
+        match part {
+            BoundPart::Comparison(comparison) => Bound {
+                comparison,
+                number: self.number,
+            },
+            BoundPart::Number(number) => Bound {
+                comparison: self.comparison,
+                number,
+            },
+        }
+    }
+
     /// The bound that every number of components keeps.
     fn none() -> Bound
         ensures { result ≡ unbounded }
@@ -146,9 +171,9 @@ impl Draft {
         self.put(Expr { shape })
     }
 
-    /// The bound of the innermost expression that is not whole, where it is a container, has this comparison.
-    fn compare(&mut self, comparison: Comparison) -> Result<(), AllocError>
-        ensures { OnOk result (self.new ≡ compared comparison self.old) }
+    /// The bound of the innermost expression that is not whole, where it is a container, has this part.
+    fn rebind(&mut self, part: BoundPart) -> Result<(), AllocError>
+        ensures { OnOk result (self.new ≡ rebind part self.old) }
     {
         match self.pending.pop() {
             None => Ok(()),
@@ -156,30 +181,8 @@ impl Draft {
                 self.pending.push(Compound::Several(former, arguments))
             }
             Some(Compound::Container(kind, element, bound)) => {
-                let bound = Bound {
-                    comparison,
-                    number: bound.number,
-                };
-                self.pending.push(Compound::Container(kind, element, bound))
-            }
-        }
-    }
-
-    /// The bound of the innermost expression that is not whole, where it is a container, has this number.
-    fn set_number(&mut self, number: u32) -> Result<(), AllocError>
-        ensures { OnOk result (self.new ≡ numbered number self.old) }
-    {
-        match self.pending.pop() {
-            None => Ok(()),
-            Some(Compound::Several(former, arguments)) => {
-                self.pending.push(Compound::Several(former, arguments))
-            }
-            Some(Compound::Container(kind, element, bound)) => {
-                let bound = Bound {
-                    comparison: bound.comparison,
-                    number,
-                };
-                self.pending.push(Compound::Container(kind, element, bound))
+                let container = Compound::Container(kind, element, bound.with(part));
+                self.pending.push(container)
             }
         }
     }
@@ -218,17 +221,17 @@ impl Draft {
             }
             Item::Bound | Item::CardNumber => {
                 if let Some(number) = number_in(token) {
-                    self.set_number(number)?;
+                    self.rebind(BoundPart::Number(number))?;
                 }
             }
             Item::Comparison => {
                 if let Some(comparison) = token.comparison() {
-                    self.compare(comparison)?;
+                    self.rebind(BoundPart::Comparison(comparison))?;
                 }
             }
             Item::TurnedComparison => {
                 if let Some(comparison) = token.comparison() {
-                    self.compare(comparison.turned())?;
+                    self.rebind(BoundPart::Comparison(comparison.turned()))?;
                 }
             }
             Item::Size => {

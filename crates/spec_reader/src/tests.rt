@@ -102,7 +102,7 @@ const ODD_PIECES: [(&str, &[u8]); 5] = [
 /// closing parentheses as often in place of `&`.
 const LONG_PIECES: [(&str, &str, &str, usize); 13] = [
     (
-        "1 Unlabelled S, 64: cl = Atom",
+        "1 Unlabelled S, 64: ck = Atom",
         "allstructs([S, {S = Z@}], size = 1);",
         ", % = Z",
         63,
@@ -172,7 +172,8 @@ const LONG_PIECES: [(&str, &str, &str, usize); 13] = [
 ];
 
 /// A statement, with a blank between any two tokens.
-const SPACED: &str = "allstructs ( [ Z , { Z = Atom , S = Union ( Sequence ( S , 2 >= card ) , Sequence ( Z , card = 2 ) ) } , labeled ] , size = 1 ) ;";
+const SPACED: &str =
+    "allstructs ( [ Z , { Z = Atom , S = Sequence ( Z , 2 >= card ) , T = Union ( S , Z ) , U = Sequence ( T , card = 2 ) } , labeled ] , size = 1 ) ;";
 
 const LETTERS: &[u8; 26] = b"abcdefghijklmnopqrstuvwxyz";
 
@@ -205,10 +206,9 @@ fn expr_text(alloc: Global, expr: &Expr) -> Result<String, AllocError> {
 
 /// A statement as the table has it.
 fn statement_text(alloc: Global, statement: &Statement) -> Result<String, AllocError> {
-    let Form::List(Job::Grammar(
-        ClassRef::Written(symbol, RulesRef::Written(spec), universe),
-        size,
-    )) = &statement.form
+    let Form::List(
+        Job::Grammar(ClassRef::Written(symbol, RulesRef::Written(spec), universe), size),
+    ) = &statement.form
     else {
         return String::from_str(alloc, "nothing");
     };
@@ -252,12 +252,7 @@ fn push_often(text: &mut Vec<u8>, part: &str, count: usize) -> Result<(), AllocE
 }
 
 /// A piece of `LONG_PIECES`.
-fn long_piece(
-    alloc: Global,
-    piece: &str,
-    part: &str,
-    count: usize,
-) -> Result<Vec<u8>, AllocError> {
+fn long_piece(alloc: Global, piece: &str, part: &str, count: usize) -> Result<Vec<u8>, AllocError> {
     let mut text = Vec::new(alloc);
     for byte in piece.as_bytes() {
         match byte {
@@ -292,7 +287,12 @@ fn pieces_are_read_as_the_tables_say(rt: HostRuntime) -> Result<(), Fail> {
 }
 
 /// Cuts the statement before its token at these places, writes the token twice, and puts `;` in its place.
-fn token_is_looked_at(rt: &impl Abort, alloc: Global, start: usize, end: usize) -> Result<(), Fail> {
+fn token_is_looked_at(
+    rt: &impl Abort,
+    alloc: Global,
+    start: usize,
+    end: usize,
+) -> Result<(), Fail> {
     let text = SPACED.as_bytes();
     assert!(rt; start < end && end <= text.len() && text.len() < 1000);
     let (front, token, rest) = (&text[..start], &text[start..end], &text[end..]);
