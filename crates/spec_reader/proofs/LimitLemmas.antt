@@ -3,11 +3,9 @@ use Rattle.std.specs.Prelude.{if◌then◌else◌}
 use Rattle.std.specs.List.{list_all}
 use Rattle.std.proofs.Common.{◌≡◌, ℕ, Bool, true, false, not, ◌&&◌, nat_le, Option, Some, None, List, [], ◌∷◌, length, refl, arith}
 use Rattle.spec_reader.specs.declared.refusal.Which.{Which}
-use Rattle.spec_reader.specs.declared.table.Item.{Item}
 use Rattle.spec_reader.specs.declared.table.Role.{Role}
 use Rattle.spec_reader.specs.declared.table.Role.TheVariants as role
 use Rattle.spec_reader.specs.Tokens.{Token, text_of}
-use Rattle.spec_reader.specs.Table.{only_if}
 use Rattle.spec_reader.specs.Limits.{is_long, is_above, is_size, is_rule_name, is_expr_start, is_deeper, first_that_holds, tests, limit, limit_or, repeat, repeats, reason, Reason, Repeats}
 
 none-holds : (tests : List (Bool × Which)) → first_that_holds tests ≡ None → list_all (λ test. not test.0) tests ≡ true

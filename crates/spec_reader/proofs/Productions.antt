@@ -240,10 +240,10 @@ reads-container_end (Some b) d = (
 )
 
 -- the arguments in parentheses by the first one and the others
-several : (depth : ℕ) (first : ExprTree) (others : ExprTrees) (d e f : Draft) → Walks (expr (suc depth) first) (item.Expr (suc depth) ∷ []) d [] e
+in_parentheses : (depth : ℕ) (first : ExprTree) (others : ExprTrees) (d e f : Draft) → Walks (expr (suc depth) first) (item.Expr (suc depth) ∷ []) d [] e
     → Walks (more_exprs (suc depth) others) (item.MoreExprs (suc depth) ∷ []) e [] f
     → Walks (tree.sign sign.OpenParen ∷ expr (suc depth) first ++ more_exprs (suc depth) others) (item.Mark sign.OpenParen ∷ item.Expr (suc depth) ∷ item.MoreExprs (suc depth) ∷ []) d [] f
-several depth first others d e f one rest =
+in_parentheses depth first others d e f one rest =
     ([], refl, refl, over (expr (suc depth) first) (more_exprs (suc depth) others) (item.Expr (suc depth)) (item.MoreExprs (suc depth) ∷ []) [] d e f one rest)
 
 -- the table walks over each tree, and builds it
@@ -257,13 +257,13 @@ mutual
     item.Mark sign.OpenParen ∷ item.Expr (suc depth) ∷ item.MoreExprs (suc depth) ∷ [],
     refl,
     refl,
-    several depth first others _ _ _ (reads-expr (suc depth) first _) (reads-more (suc depth) others _),
+    in_parentheses depth first others _ _ _ (reads-expr (suc depth) first _) (reads-more (suc depth) others _),
   )
   reads-expr depth (tree.Prod first others) d = subst (λ e. Walks (expr depth (tree.Prod first others)) (item.Expr depth ∷ []) d [] e) (effect-prod first others d) (
     item.Mark sign.OpenParen ∷ item.Expr (suc depth) ∷ item.MoreExprs (suc depth) ∷ [],
     refl,
     refl,
-    several depth first others _ _ _ (reads-expr (suc depth) first _) (reads-more (suc depth) others _),
+    in_parentheses depth first others _ _ _ (reads-expr (suc depth) first _) (reads-more (suc depth) others _),
   )
   reads-expr depth (tree.Sequence element end) d = subst (λ e. Walks (expr depth (tree.Sequence element end)) (item.Expr depth ∷ []) d [] e) (effect-sequence element end d) (
     item.Mark sign.OpenParen ∷ item.Expr (suc depth) ∷ item.ContainerEnd ∷ [],

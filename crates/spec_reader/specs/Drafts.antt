@@ -12,7 +12,6 @@ use Rattle.spec_reader.specs.declared.table.Head.{Head}
 use Rattle.spec_reader.specs.declared.table.Head.TheVariants as head
 use Rattle.spec_reader.specs.declared.table.Former.TheVariants as former
 use Rattle.spec_reader.specs.declared.draft.Command.TheVariants as command
-use Rattle.spec_reader.specs.declared.table.Comparison.{Comparison}
 use Rattle.spec_reader.specs.declared.table.Comparison.TheVariants as compare
 use Rattle.spec_reader.specs.declared.draft.Bound.{Bound}
 use Rattle.spec_reader.specs.declared.draft.BoundPart.{BoundPart}

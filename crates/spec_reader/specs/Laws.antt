@@ -40,7 +40,7 @@ ClassIsInForce (class_ref.Bound name) = ⊥
 
 abbrev pub JobIsInForce : Job → Type 0
 JobIsInForce (job.Grammar class size) = ClassIsInForce class
-JobIsInForce (job.Ready family ground size) = ⊥
+JobIsInForce (job.Ready family over size) = ⊥
 
 -- is the form in force: to ask for nothing, or for all structures of a class that is written out with its rules
 abbrev pub FormIsInForce : Form → Type 0
@@ -72,7 +72,7 @@ ClassPasses test (class_ref.Bound name) = Unit {0}
 
 abbrev pub JobPasses : (Rules → Bool) → Job → Type 0
 JobPasses test (job.Grammar class size) = ClassPasses test class
-JobPasses test (job.Ready family ground size) = Unit {0}
+JobPasses test (job.Ready family over size) = Unit {0}
 
 -- do the rules that are written in a form pass the test
 abbrev pub FormPasses : (Rules → Bool) → Form → Type 0
@@ -99,7 +99,7 @@ ReadingsKeep = (piece : List ℕ) (read : Statement) → ReadsAs piece read → 
 
 abbrev pub JobIsSmall : Job → Type 0
 JobIsSmall (job.Grammar class size) = size ≤ 1000
-JobIsSmall (job.Ready family ground size) = Unit {0}
+JobIsSmall (job.Ready family over size) = Unit {0}
 
 abbrev pub FormIsSmall : Form → Type 0
 FormIsSmall form.Empty = Unit {0}
