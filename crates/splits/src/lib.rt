@@ -23,7 +23,8 @@ mod tests {
             Supply::Zeros(n) => told.push(*n)?,
             Supply::Labels(labels) => told.extend_from_slice(labels.as_slice())?,
         }
-        told.push(0)
+        told.push(0)?;
+        Ok(())
     }
 
     /// Each part that the walk gives and what remains.
