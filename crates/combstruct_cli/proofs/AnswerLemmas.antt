@@ -20,7 +20,7 @@ use Rattle.well_founded.specs.Names.{name_without_rule, symbol_without_rule, und
 use Rattle.well_founded.specs.Checked.{Checked, grammar}
 use Rattle.well_founded.specs.declared.refused.Refused.{Refused as GrammarRefused}
 use Rattle.well_founded.specs.declared.refused.Refused.TheVariants as refusal
-use Rattle.well_founded.proofs.NodesLaws.{found_rule}
+use Rattle.spec_syntax.proofs.RulesLemmas.{found_rule}
 use Rattle.combstruct_cli.specs.declared.refusal.Refusal.TheVariants.{Read}
 use Rattle.combstruct_cli.specs.NodeListing.{listing_of_rule}
 use Rattle.combstruct_cli.specs.Input.{IsSpent, TookOver}

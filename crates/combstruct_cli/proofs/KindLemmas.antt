@@ -14,7 +14,7 @@ use Rattle.well_founded.specs.declared.node.NodeKind.{NodeKind}
 use Rattle.well_founded.specs.declared.node.NodeKind.TheVariants as told
 use Rattle.well_founded.specs.NodeKinds.{kind_of, container, is_container}
 use Rattle.well_founded.proofs.CheckSteps.{slice_some}
-use Rattle.well_founded.proofs.NodesLaws.{found_rule}
+use Rattle.spec_syntax.proofs.RulesLemmas.{found_rule}
 
 -- ---- kinds
 

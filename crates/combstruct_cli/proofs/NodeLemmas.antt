@@ -18,16 +18,15 @@ use Rattle.struct_model.specs.Bounded.{listing}
 use Rattle.struct_model.proofs.SupplyLaws.{supply_is, supply_size}
 use Rattle.well_founded.specs.declared.node.NodeKind.{NodeKind}
 use Rattle.well_founded.specs.declared.node.NodeKind.TheVariants as told
-use Rattle.well_founded.specs.Nodes.{node_at, right_node, children_of, below}
-use Rattle.well_founded.specs.NodeKinds.{kind_of, children_at, name_of, name_at}
-use Rattle.well_founded.specs.NodeView.{arguments_of}
+use Rattle.spec_syntax.specs.Nodes.{node_at, right_node, children_of, below, children_at, name_of, name_at, arguments_of}
+use Rattle.well_founded.specs.NodeKinds.{kind_of}
+use Rattle.spec_syntax.proofs.NodesLemmas.{in_nodes, child_node, length-children_of, right_node_is}
 use Rattle.well_founded.specs.Sizes.{IsLeast}
 use Rattle.well_founded.specs.Rank.{IsRank}
 use Rattle.well_founded.specs.SameSize.{is_told_inside}
 use Rattle.well_founded.specs.Checked.{Checked, grammar}
 use Rattle.well_founded.proofs.CheckSteps.{slice_some}
 use Rattle.well_founded.proofs.LeastRounds.{right_of}
-use Rattle.well_founded.proofs.NodesLaws.{in_nodes, child_node, length-children_of, right_node_is}
 use Rattle.listing_laws.specs.Lister.{list_epsilon, list_atom, alternatives, named}
 use Rattle.listing_laws.proofs.Between.{none_below}
 use Rattle.listing_laws.proofs.Filled.{same_size_is_filled}

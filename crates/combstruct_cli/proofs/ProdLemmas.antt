@@ -19,14 +19,12 @@ use Rattle.struct_model.specs.Bounded.{listing}
 use Rattle.lists.proofs.Enumerated.{in_map, from_filter}
 use Rattle.struct_model.proofs.SupplyLaws.{supply_is, supply_size, supply_rises}
 use Rattle.well_founded.specs.declared.node.NodeKind.TheVariants as told
-use Rattle.well_founded.specs.Nodes.{node_at, children_of}
-use Rattle.well_founded.specs.NodeKinds.{children_at, arguments_at}
-use Rattle.well_founded.specs.NodeView.{arguments_of}
+use Rattle.spec_syntax.specs.Nodes.{node_at, children_of, children_at, arguments_at, arguments_of}
+use Rattle.spec_syntax.proofs.NodesLemmas.{in_nodes, child_node, length-children_of}
 use Rattle.well_founded.specs.Sizes.{IsLeast, no_least}
 use Rattle.well_founded.specs.Rank.{CanFill}
 use Rattle.well_founded.specs.Checked.{Checked, grammar}
 use Rattle.well_founded.proofs.CheckSteps.{slice_some}
-use Rattle.well_founded.proofs.NodesLaws.{in_nodes, child_node, length-children_of}
 use Rattle.splits.specs.Splits.{Split, splits}
 use Rattle.splits.specs.Parts.{has_length, parts}
 use Rattle.listing_laws.specs.Lister.{list_no_components, each_before, by_parts, product}

@@ -22,11 +22,10 @@ use Rattle.struct_model.specs.Bounded.{listing}
 use Rattle.lists.proofs.Enumerated.{from_filter, from_flat_map}
 use Rattle.struct_model.proofs.SupplyLaws.{supply_size}
 use Rattle.well_founded.specs.declared.node.NodeKind.TheVariants as told
-use Rattle.well_founded.specs.Nodes.{node_at, children_of}
-use Rattle.well_founded.specs.NodeKinds.{children_at, card_of, card_at}
+use Rattle.spec_syntax.specs.Nodes.{node_at, children_of, children_at, card_of, card_at}
+use Rattle.spec_syntax.proofs.NodesLemmas.{in_nodes, child_node}
 use Rattle.well_founded.specs.Sizes.{IsLeast}
 use Rattle.well_founded.specs.Checked.{Checked, grammar}
-use Rattle.well_founded.proofs.NodesLaws.{in_nodes, child_node}
 use Rattle.splits.specs.Splits.{Split, splits}
 use Rattle.splits.specs.Parts.{has_length, parts}
 use Rattle.listing_laws.specs.Lister.{each_before, sequence, after_one, admits_some, list_empty}

@@ -8,11 +8,11 @@ use Rattle.spec_syntax.specs.Rules.{right_side, rule_name, are_sequences}
 use Rattle.struct_model.specs.Structure.{Structure}
 use Rattle.struct_model.specs.Membership.{supply}
 use Rattle.struct_model.specs.Bounded.{listing}
-use Rattle.well_founded.specs.Nodes.{node_at, right_node}
+use Rattle.spec_syntax.specs.Nodes.{node_at, right_node, children_at, arguments_at}
 use Rattle.well_founded.specs.declared.node.NodeKind.{NodeKind}
 use Rattle.well_founded.specs.declared.node.NodeKind.TheVariants.{Sequence}
 use Rattle.well_founded.specs.SameSize.{is_told_inside}
-use Rattle.well_founded.specs.NodeKinds.{kind_of, children_at, arguments_at}
+use Rattle.well_founded.specs.NodeKinds.{kind_of}
 use Rattle.well_founded.specs.Checked.{Checked, IsChecked, grammar}
 use Rattle.listing_laws.specs.Lister.{admits_some}
 use Rattle.listing_laws.specs.Recursion.{components_on, repeated_on}

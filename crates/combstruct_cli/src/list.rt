@@ -5,7 +5,7 @@
 ghost use Rattle.std.specs.Prelude.{◌≡◌, ◌+◌, ◌-◌, ◌<◌, ◌≤◌, ◌++◌, Some, slice_get, length, map, IfOk, OnOk};
 ghost use Rattle.spec_syntax.specs.Rules.{all_nodes};
 ghost use Rattle.struct_model.specs.Structure.{Alt as Alternative};
-ghost use Rattle.well_founded.specs.NodeKinds.{card_at, children_at};
+ghost use Rattle.spec_syntax.specs.Nodes.{card_at, children_at};
 ghost use Rattle.combstruct_cli.specs.Columns.{column_to, only_label, alternatives_at, joined_by};
 ghost use Rattle.combstruct_cli.specs.NodeListing.{IsListable, HasKind, IsElement, Reaches, listing_of_rule, listing_of_node, least_at, arguments_to, columns_of, least_from, components_from};
 

@@ -18,9 +18,11 @@ use Rattle.struct_model.specs.declared.tree.Form5.TheVariants as form
 use Rattle.struct_model.specs.Structure.{Structure, Eps, Atom, Named, Alt, Tup, part_list, parts_of, labels, labels_of_parts}
 use Rattle.struct_model.specs.Membership.{are_of_each, argument}
 use Rattle.lists.specs.Enumeration.{IsIn}
+use Rattle.spec_syntax.proofs.RulesLemmas.{own_name}
+use Rattle.spec_syntax.proofs.ExpressionLemmas.{list_of}
 use Rattle.well_founded.specs.Names.{name_without_rule}
-use Rattle.well_founded.specs.Nodes.{right_node}
-use Rattle.well_founded.specs.NodeView.{arguments_of}
+use Rattle.spec_syntax.specs.Nodes.{right_node, arguments_of}
+use Rattle.lists.proofs.Places.{get_right}
 use Rattle.well_founded.specs.Rank.{CanFill}
 use Rattle.well_founded.specs.SameSize.{is_told_inside}
 use Rattle.well_founded.specs.Sets.{all_with_sets, reading_sets}
@@ -30,9 +32,9 @@ use Rattle.well_founded.proofs.CyclesLaws.{node_allowed}
 use Rattle.well_founded.proofs.LeastLaws.{name_is, read_argument}
 use Rattle.well_founded.proofs.LeastReached.{some_label}
 use Rattle.well_founded.proofs.ManyLaws.{low_admitted, same_parts, many_same, are_copies}
-use Rattle.well_founded.proofs.NodesLaws.{get_right, in_nodes, node_of, passes, right_node_is, name_node_rule}
-use Rattle.well_founded.proofs.RankLaws.{own_name}
-use Rattle.well_founded.proofs.SameSizeCode.{list_of}
+use Rattle.well_founded.proofs.NodesLaws.{name_node_rule}
+use Rattle.spec_syntax.proofs.NodesLemmas.{in_nodes, node_of, right_node_is}
+use Rattle.lists.proofs.Tests.{passes}
 use Rattle.listing_laws.specs.Laws.{SameSizeIsFilled}
 use Rattle.listing_laws.specs.Recursion.{AreLeast}
 use Rattle.listing_laws.proofs.Between.{sum_more}

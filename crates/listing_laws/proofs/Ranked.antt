@@ -17,16 +17,16 @@ use Rattle.struct_model.specs.Structure.{Structure, Eps, Atom, Named, Alt, Tup, 
 use Rattle.struct_model.specs.Membership.{is_of, are_of, are_of_each, argument, names, is_epsilon, is_atom}
 use Rattle.lists.specs.Enumeration.{IsIn}
 use Rattle.struct_model.specs.Bounded.{Bounds, argument_count, up_to_height}
-use Rattle.well_founded.specs.Nodes.{node_at, right_node, children_of, below}
-use Rattle.well_founded.specs.NodeView.{arguments_of}
+use Rattle.spec_syntax.specs.Nodes.{node_at, right_node, children_of, below, arguments_of}
+use Rattle.spec_syntax.proofs.NodesLemmas.{in_nodes, node_of, child_node, length-children_of, right_node_is}
 use Rattle.well_founded.specs.Rank.{StandsAt, AreRanks}
 use Rattle.well_founded.specs.WellFounded.{HoldsNull, OfNone}
-use Rattle.well_founded.proofs.NodesLaws.{in_nodes, node_of, get_right, child_node, length-children_of, right_node_is}
+use Rattle.lists.proofs.Places.{get_right}
 use Rattle.well_founded.proofs.CheckSteps.{slice_some}
 use Rattle.well_founded.proofs.EndlessLaws.{in_size, node_full}
 use Rattle.well_founded.proofs.LeastRounds.{right_of}
 use Rattle.well_founded.proofs.ManyLaws.{component_is}
-use Rattle.well_founded.proofs.SameSizeCode.{list_of}
+use Rattle.spec_syntax.proofs.ExpressionLemmas.{list_of}
 use Rattle.well_founded.proofs.LeastLaws.{held}
 use Rattle.listing_laws.specs.Laws.{IsNeverEmpty}
 use Rattle.listing_laws.proofs.Containers.{list_is, no_list, container_is, component_stands}

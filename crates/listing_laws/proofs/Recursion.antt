@@ -18,15 +18,14 @@ use Rattle.struct_model.specs.Membership.{is_of, are_of, supply, is_supply}
 use Rattle.lists.specs.Enumeration.{IsIn}
 use Rattle.struct_model.specs.Listing.{IsOne}
 use Rattle.struct_model.specs.Bounded.{bounds, bounded, listing}
-use Rattle.well_founded.specs.Nodes.{right_node}
-use Rattle.well_founded.specs.NodeView.{arguments_of}
+use Rattle.spec_syntax.specs.Nodes.{right_node, arguments_of}
+use Rattle.spec_syntax.proofs.NodesLemmas.{in_nodes, right_node_is}
 use Rattle.well_founded.specs.Rank.{AreRanks}
 use Rattle.well_founded.specs.Sizes.{IsLeast}
 use Rattle.well_founded.specs.WellFounded.{HoldsNull, OfNone}
-use Rattle.well_founded.proofs.NodesLaws.{in_nodes, right_node_is}
+use Rattle.spec_syntax.proofs.ExpressionLemmas.{list_of}
 use Rattle.well_founded.proofs.ManyLaws.{low_admitted}
 use Rattle.well_founded.proofs.RankLaws.{ranks_exist}
-use Rattle.well_founded.proofs.SameSizeCode.{list_of}
 use Rattle.splits.specs.Splits.{Split, splits}
 use Rattle.splits.specs.Parts.{has_length, parts}
 use Rattle.listing_laws.specs.Lister.{list_epsilon, list_atom, alternatives, each_before, by_parts, after_one, admits_some, list_repeated, product, sequence, named}

@@ -11,10 +11,10 @@ use Rattle.spec_syntax.specs.Grammar.{Grammar}
 use Rattle.struct_model.specs.declared.tree.Form5.TheVariants as form
 use Rattle.struct_model.specs.Structure.{Structure, Eps, Atom, Named, Alt, Tup, Structures, no_parts, more_parts, part_list, labels, labels_of_parts, size}
 use Rattle.struct_model.specs.Membership.{are_of, are_of_each, is_label}
-use Rattle.well_founded.specs.Nodes.{right_node}
+use Rattle.spec_syntax.specs.Nodes.{right_node}
 use Rattle.well_founded.specs.Sets.{set_kind, with_sets, all_with_sets, reading_sets}
 use Rattle.well_founded.specs.Sizes.{IsOf}
-use Rattle.well_founded.proofs.NodesLaws.{right_node_is}
+use Rattle.spec_syntax.proofs.NodesLemmas.{right_node_is}
 use Rattle.well_founded.proofs.LeastLaws.{HasInside, name_inside, name_is, argument_read, read_argument}
 use Rattle.listing_laws.proofs.Containers.{no_list}
 use Rattle.lists.proofs.Ascending.{Each, each_left, each_right}

@@ -10,10 +10,11 @@ use Rattle.spec_syntax.specs.Rules.{Rules, all_nodes, are_sequences}
 use Rattle.spec_syntax.specs.Grammar.{Grammar}
 use Rattle.struct_model.specs.Structure.{Structure}
 use Rattle.struct_model.specs.Membership.{is_of, argument}
-use Rattle.well_founded.specs.Nodes.{node_at}
+use Rattle.spec_syntax.specs.Nodes.{node_at}
+use Rattle.spec_syntax.proofs.NodesLemmas.{node_stands}
 use Rattle.well_founded.specs.Sets.{with_sets, all_with_sets}
 use Rattle.well_founded.specs.Sizes.{IsOf}
-use Rattle.well_founded.proofs.NodesLaws.{all_pass, node_stands}
+use Rattle.lists.proofs.Places.{all_pass}
 
 -- no container but a Sequence is among the nodes
 abbrev pub AreSequences : List Expression → Type 0

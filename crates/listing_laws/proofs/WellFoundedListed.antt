@@ -13,9 +13,9 @@ use Rattle.struct_model.specs.Listing.{IsOne, Lists}
 use Rattle.struct_model.specs.Bounded.{bounds, bounded, greatest, argument_count, most_arguments, listing, up_to_height}
 use Rattle.struct_model.proofs.ListingLaws.{one_listing}
 use Rattle.well_founded.specs.WellFounded.{HoldsNull, OfNone}
-use Rattle.well_founded.specs.Nodes.{node_at}
+use Rattle.spec_syntax.specs.Nodes.{node_at}
 use Rattle.well_founded.specs.Rank.{AreRanks}
-use Rattle.well_founded.proofs.NodesLaws.{in_nodes, node_of}
+use Rattle.spec_syntax.proofs.NodesLemmas.{in_nodes, node_of}
 use Rattle.listing_laws.specs.Laws.{IsListing}
 use Rattle.lists.proofs.Ascending.{Each, from_ascending}
 use Rattle.listing_laws.proofs.FilterLaws.{listing_within_is}

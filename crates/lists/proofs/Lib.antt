@@ -10,3 +10,4 @@ pub mod Ascending
 pub mod AscendingAbove
 pub mod NumberOrder
 pub mod Orders
+pub mod Indexed

@@ -1,10 +1,7 @@
 -- Laws of expressions.
-use Rattle.std.proofs.Common.{ℕ, zero, suc, ◌≤◌, ◌<◌, List, [], ◌∷◌, length, get_or, arith, length-append}
-use Rattle.spec_syntax.specs.Expression.{Expression, preorder, preorder_of_all, nodes, nodes_of_all, expressions_of}
+use Rattle.std.proofs.Common.{◌≡◌, List, [], ◌∷◌, refl, ap}
+use Rattle.spec_syntax.specs.Expression.{Expression, expressions_of, expression_list}
 
--- an expression of a list has no more nodes than the list
-pub nodes-get_or_le : (es : List Expression) (i : ℕ) (e : Expression) → i < length es → nodes (get_or es i e) ≤ nodes_of_all (expressions_of es)
-nodes-get_or_le [] i e within = omega arith
-nodes-get_or_le (first ∷ es) zero e within = omega (arith, length-append (preorder first) (preorder_of_all (expressions_of es)))
-nodes-get_or_le (first ∷ es) (suc i) e within =
-    omega (arith, nodes-get_or_le es i e (omega arith), length-append (preorder first) (preorder_of_all (expressions_of es)))
+pub list_of : (es : List Expression) → expression_list (expressions_of es) ≡ es
+list_of [] = refl
+list_of (e ∷ es) = ap (λ others. e ∷ others) (list_of es)

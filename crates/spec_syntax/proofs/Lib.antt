@@ -1,2 +1,7 @@
 pub mod ExpressionLemmas
 pub mod RulesLemmas
+pub mod NodesLemmas
+pub mod NodeRanges
+pub mod NodeSteps
+pub mod NodePlaces
+mod NodePlaceCases

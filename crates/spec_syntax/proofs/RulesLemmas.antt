@@ -3,6 +3,9 @@ use Rattle.std.proofs.Common.{◌≡◌, ◌≤◌, subst, slice_get, Option, le
 use Rattle.std.specs.List.{list_any, position_from}
 use Rattle.std.specs.Map.{lookup}
 use Rattle.std.specs.Option.{option_map}
+use Rattle.std.specs.Cmp.Lexicographic.{same_text}
+use Rattle.lists.specs.Enumeration.{IsIn}
+use Rattle.lists.proofs.Places.{in_of_get}
 use Rattle.spec_syntax.specs.Expression.{Expression, preorder, nodes}
 use Rattle.spec_syntax.specs.Rules.{Rules, is_same_name, symbol, right_side, all_nodes, rule_name, are_names_distinct, is_spec}
 
@@ -77,3 +80,41 @@ nodes-right_side_le rules (suc i) right facts at = by (slice_get rules i) refl a
         let same : rule.1 ≡ right = cc in
         let P : Expression → Type 0 = λ right. nodes right ≤ 128 in
         subst P same (omega (arith, nodes-slice_get rules i rule e, all_nodes-from_spec rules facts))
+
+pub found_rule : (test : List ℕ × Expression → Bool) (rules : Rules) (first n : ℕ) → position_from test first rules ≡ Some n
+    → (i : ℕ) × (rule : List ℕ × Expression) × (first + i ≡ n) × (slice_get rules i ≡ Some rule) × (test rule ≡ true)
+found_rule test [] first n found = absurd (cc)
+found_rule test (rule ∷ rules) first n found = by (test rule) refl found (λ later. found_rule test rules (first + 1) n later)
+  where
+    by : (b : Bool) → test rule ≡ b → cond b (Some first) (position_from test (first + 1) rules) ≡ Some n
+        → (position_from test (first + 1) rules ≡ Some n → (i : ℕ) × (other : List ℕ × Expression) × (first + 1 + i ≡ n) × (slice_get rules i ≡ Some other) × (test other ≡ true))
+        → (i : ℕ) × (other : List ℕ × Expression) × (first + i ≡ n) × (slice_get (rule ∷ rules) i ≡ Some other) × (test other ≡ true)
+    by true told at others = let same : first ≡ n = cc in (0, rule, omega arith, refl, told)
+    by false told at others = let rest = others at in (suc rest.0, rest.1, shift rest.0 rest.2, rest.3, rest.4)
+      where
+        shift : (i : ℕ) → first + 1 + i ≡ n → first + suc i ≡ n
+        shift i same = omega arith
+
+-- a name with a rule has the right side of the rule
+pub symbol_right : (rules : Rules) (name : List ℕ) (sym : ℕ) → symbol rules name ≡ Some sym → (right : Expression) × (right_side rules sym ≡ Some right)
+symbol_right rules name number found =
+    let rule : (i : ℕ) × (other : List ℕ × Expression) × (1 + i ≡ number) × (slice_get rules i ≡ Some other) × (is_same_name other.0 name ≡ true) =
+    found_rule (λ rule. is_same_name rule.0 name) rules 1 number found in
+    let next : suc rule.0 ≡ number = after rule.0 rule.2 in
+    (rule.1.1, subst (λ (j : ℕ). right_side rules j ≡ Some rule.1.1) next (ap (option_map (λ (other : List ℕ × Expression). other.1)) rule.3))
+  where
+    after : (i : ℕ) → 1 + i ≡ number → suc i ≡ number
+    after i same = omega arith
+
+-- a rule that is found by its name has the name
+pub own_name : (rules : Rules) (name : List ℕ) (r : ℕ) → symbol rules name ≡ Some r → (right : Expression) × IsIn (name, right) rules
+own_name rules name r numbered =
+    let found = found_rule (λ rule. is_same_name rule.0 name) rules 1 r numbered in
+    (found.1.1, subst (λ (own : List ℕ). IsIn (own, found.1.1) rules) (same_text found.1.0 name (sym found.4)) (in_of_get rules found.0 found.1 found.3))
+
+-- a number of a rule has a right side
+pub some_right : (rules : Rules) (sym : ℕ) → 1 ≤ sym → sym ≤ length rules → (right : Expression) × (right_side rules sym ≡ Some right)
+some_right rules zero low high = absurd (omega arith)
+some_right [] (suc i) low high = absurd (omega arith)
+some_right (rule ∷ rules) (suc zero) low high = (rule.1, refl)
+some_right (rule ∷ rules) (suc (suc i)) low high = some_right rules (suc i) (omega arith) (omega arith)

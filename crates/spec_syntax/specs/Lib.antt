@@ -5,4 +5,5 @@ pub mod ExpressionView
 pub mod ExpressionFalls
 pub mod Word
 pub mod Rules
+pub mod Nodes
 pub mod Grammar

@@ -14,13 +14,13 @@ use Rattle.well_founded.specs.declared.refused.Refused.TheVariants.{Undefined, C
 use Rattle.well_founded.specs.Names.{undefined_name, symbol_without_rule, name_without_rule}
 use Rattle.well_founded.specs.Sizes.{IsProductive, IsLeast}
 use Rattle.well_founded.specs.Least.{IsSize, least_with, size_of_name}
-use Rattle.well_founded.specs.Nodes.{right_node}
+use Rattle.spec_syntax.specs.Nodes.{right_node}
 use Rattle.graphs.specs.Graph.{Graph, Leads, Reaches}
 use Rattle.well_founded.specs.SameSize.{is_null, same_size_graph}
 use Rattle.well_founded.specs.Containers.{is_not_over_null, is_without_null}
 use Rattle.well_founded.specs.WellFounded.{may_hold_cycles, HasNullElement, HoldsItself, HoldsCycle, HasNoStructure, HoldsNull, IsEndless, OfNone, IsFirst, IsEachProductive, Checks}
 use Rattle.well_founded.specs.Laws.{SaysSome, SaysOne}
-use Rattle.well_founded.proofs.NodesLaws.{passes}
+use Rattle.lists.proofs.Tests.{passes}
 use Rattle.well_founded.proofs.CyclesLaws.{name_allowed, inside_allowed, rule_allowed, one_fails}
 use Rattle.well_founded.proofs.SameSizeLaws.{null_size, from_null}
 use Rattle.well_founded.proofs.LeastRounds.{sizes_exist}

@@ -20,7 +20,7 @@ use Rattle.well_founded.specs.declared.refused.Refused.TheVariants.{CycleUnlabel
 use Rattle.well_founded.specs.Names.{name_without_rule, undefined_name}
 use Rattle.well_founded.specs.Sizes.{IsProductive, IsLeast, no_least}
 use Rattle.well_founded.specs.Least.{IsSize, AreSizes, least_with, size_of_name, least_by, leasts_of}
-use Rattle.well_founded.specs.Nodes.{node_at, right_node}
+use Rattle.spec_syntax.specs.Nodes.{node_at, right_node}
 use Rattle.well_founded.specs.NodeTable.{right_nodes_from}
 use Rattle.graphs.specs.Graph.{Graph, Leads, IsGraph, AreCounts}
 use Rattle.well_founded.specs.SameSize.{same_size_graph}
@@ -29,7 +29,7 @@ use Rattle.well_founded.specs.Search.{IsFirstRound, IsNoRound}
 use Rattle.well_founded.specs.Rank.{AreRanks}
 use Rattle.well_founded.specs.Checked.{IsChecked, AreLeasts}
 use Rattle.well_founded.specs.WellFounded.{may_hold_cycles, HoldsItself, OfRule, HoldsCycle, HasNoStructure, HoldsNull, IsEndless, OfNone, IsFirst, IsEachProductive, IsWellFounded, IsCulprit}
-use Rattle.well_founded.proofs.NodesLaws.{in_of_get, get_of_in}
+use Rattle.lists.proofs.Places.{in_of_get, get_of_in}
 use Rattle.well_founded.proofs.CyclesLaws.{name_allowed, rule_allowed, node_allowed}
 use Rattle.well_founded.proofs.NodeTables.{get-right_nodes, length-right_nodes, length-right_table, table_right_within}
 use Rattle.well_founded.proofs.EndlessLaws.{endless_is}

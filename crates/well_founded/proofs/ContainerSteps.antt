@@ -4,7 +4,7 @@ use Rattle.std.specs.List.{list_all, position_from}
 use Rattle.std.proofs.lemmas.List.Folds.{list_all-append as all-append}
 use Rattle.spec_syntax.specs.Expression.{Expression, preorder, preorder_of_all, expressions_of}
 use Rattle.spec_syntax.specs.Rules.{Rules, right_side}
-use Rattle.well_founded.proofs.NodeSteps.{preorder_step, next_rule}
+use Rattle.spec_syntax.proofs.NodeSteps.{preorder_step, next_rule}
 
 -- a test of all that is in some expressions goes on from one expression to the next
 pub all_step : (test : Expression → Bool) (es : List Expression) (i : ℕ) (e : Expression) → i < length es → e ≡ get_or es i e

@@ -12,10 +12,11 @@ use Rattle.spec_syntax.specs.Rules.{right_side}
 use Rattle.spec_syntax.specs.Grammar.{Grammar}
 use Rattle.struct_model.specs.Membership.{is_labelled}
 use Rattle.lists.specs.Enumeration.{IsIn}
+use Rattle.lists.proofs.Places.{all_pass}
 use Rattle.well_founded.specs.WellFounded.{is_no_cycle, may_hold_cycles, HoldsCycle, OfNone}
-use Rattle.well_founded.specs.Nodes.{node_at, right_node}
+use Rattle.spec_syntax.specs.Nodes.{node_at, right_node}
 use Rattle.lists.proofs.Within.{in_either}
-use Rattle.well_founded.proofs.NodesLaws.{node_stands, all_pass, all_of_rules, right_node_is}
+use Rattle.spec_syntax.proofs.NodesLemmas.{node_stands, all_of_rules, right_node_is}
 
 -- ---- parts
 

@@ -8,32 +8,33 @@ use Rattle.spec_syntax.specs.Expression as expr
 use Rattle.spec_syntax.specs.Expression.{Expression, preorder}
 use Rattle.spec_syntax.specs.Rules.{Rules, symbol, right_side}
 use Rattle.spec_syntax.specs.Grammar.{Grammar}
-use Rattle.spec_syntax.proofs.RulesLemmas.{symbol-within}
+use Rattle.spec_syntax.proofs.RulesLemmas.{symbol-within, symbol_right}
 use Rattle.struct_model.specs.declared.tree.Form5.{Form5}
 use Rattle.struct_model.specs.declared.tree.Form5.TheVariants as form
 use Rattle.struct_model.specs.Structure.{Structure, Eps, Atom, Named, Alt, Tup, Structures, no_parts, more_parts, part_list, labels, labels_of_parts, size}
 use Rattle.lists.specs.Enumeration.{IsIn}
 use Rattle.lists.proofs.Enumerated.{from_flat_map}
 use Rattle.struct_model.specs.Membership.{is_of, is_epsilon, is_atom, is_label}
+use Rattle.spec_syntax.proofs.NodeRanges.{child_is_no_root, roots_differ}
 use Rattle.well_founded.specs.Sets.{all_with_sets, reading_sets}
 use Rattle.well_founded.specs.Sizes.{IsOf, IsProductive}
 use Rattle.well_founded.specs.Least.{IsSize, least_with, size_of_name}
 use Rattle.well_founded.specs.Inside.{IsInside, IsAmong}
 use Rattle.well_founded.specs.WellFounded.{may_hold_cycles, HoldsItself, HoldsCycle, HoldsNull, OfNone}
-use Rattle.well_founded.specs.Nodes.{node_at, right_node, children_of, below}
+use Rattle.spec_syntax.specs.Nodes.{node_at, right_node, children_of, below}
 use Rattle.well_founded.specs.Rank.{StandsAt}
 use Rattle.graphs.specs.Graph.{Graph, next, LeadsBy, Leads}
 use Rattle.well_founded.specs.SameSize.{is_told_inside, fillable, same_size_graph}
 use Rattle.well_founded.proofs.SetsLaws.{symbol_reading}
 use Rattle.well_founded.proofs.CyclesLaws.{node_allowed}
 use Rattle.well_founded.proofs.ManyLaws.{form_of, many_is, within_stands}
-use Rattle.well_founded.proofs.NodesLaws.{in_of_get, get_of_in, right_node_is, symbol_right, in_nodes}
+use Rattle.lists.proofs.Places.{in_of_get, get_of_in}
 use Rattle.graphs.proofs.Reached.{step_leads, leads_step}
 use Rattle.well_founded.proofs.LeastRounds.{sizes_exist}
 use Rattle.well_founded.proofs.LeastLaws.{rule_read, name_inside, name_is}
 use Rattle.well_founded.proofs.SameSizeLaws.{IsFull, fills, wraps, no_argument_0, part_size, told}
 use Rattle.well_founded.proofs.SameSizeSteps.{IsStep, from_step, step_at, to_step}
-use Rattle.well_founded.proofs.SameSizeRoots.{child_is_no_root, roots_differ}
+use Rattle.spec_syntax.proofs.NodesLemmas.{right_node_is, in_nodes}
 
 -- ---- inside
 

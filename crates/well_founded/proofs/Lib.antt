@@ -11,9 +11,9 @@ pub mod LeastLoops
 pub mod GraphSteps
 pub mod SameSizeLaws
 pub mod SameSizeSteps
-pub mod SameSizeRoots
 pub mod EndlessLaws
 pub mod RankLaws
+pub mod RankFalls
 pub mod CheckLaws
 pub mod CheckExists
 pub mod NodeTables

@@ -6,15 +6,15 @@ use Rattle.spec_syntax.specs.declared.expr.Kind.TheVariants as kind
 use Rattle.spec_syntax.specs.Expression as expr
 use Rattle.spec_syntax.specs.Expression.{Expression, preorder, nodes}
 use Rattle.spec_syntax.specs.Rules.{Rules, symbol, right_side, all_nodes}
-use Rattle.spec_syntax.proofs.RulesLemmas.{symbol-within}
+use Rattle.spec_syntax.proofs.RulesLemmas.{symbol-within, some_right}
 use Rattle.well_founded.specs.declared.node.Node.{Node}
 use Rattle.well_founded.specs.declared.node.NodeKind.TheVariants as told
 use Rattle.well_founded.specs.Names.{name_without_rule, undefined_name}
-use Rattle.well_founded.specs.Nodes.{node_at, right_node, children_of}
-use Rattle.well_founded.specs.NodeView.{arguments_of}
-use Rattle.well_founded.specs.NodeKinds.{kind_of, is_container, card_of, card_at, name_of, name_at, children_at, arguments_at}
+use Rattle.spec_syntax.specs.Nodes.{node_at, right_node, children_of, arguments_of, card_of, card_at, name_of, name_at, children_at, arguments_at}
+use Rattle.spec_syntax.proofs.NodesLemmas.{child_node, child_is, children_few, right_node_is}
+use Rattle.well_founded.specs.NodeKinds.{kind_of, is_container}
 use Rattle.well_founded.specs.NodeTable.{node_kind, node_children, node_rule, node_card, node_of, nodes_from, nodes_of, right_nodes_from}
-use Rattle.well_founded.proofs.NodesLaws.{child_node, child_is, children_few, right_node_is, name_node_rule}
+use Rattle.well_founded.proofs.NodesLaws.{name_node_rule}
 use Rattle.well_founded.proofs.NodeSteps.{length-nodes_from}
 
 kind-node_of : (rules : Rules) (n : ℕ) (e : Expression) → node_kind (node_of rules n e) ≡ kind_of e
@@ -164,12 +164,6 @@ get-right_nodes n (suc i) (rule ∷ rules) within =
 pub length-right_nodes : (n : ℕ) (rules : Rules) → length (right_nodes_from n rules) ≡ length rules
 length-right_nodes n [] = refl
 length-right_nodes n (rule ∷ rules) = ap suc (length-right_nodes (n + nodes rule.1) rules)
-
-some_right : (rules : Rules) (sym : ℕ) → 1 ≤ sym → sym ≤ length rules → (right : Expression) × (right_side rules sym ≡ Some right)
-some_right rules zero low high = absurd (omega arith)
-some_right [] (suc i) low high = absurd (omega arith)
-some_right (rule ∷ rules) (suc zero) low high = (rule.1, refl)
-some_right (rule ∷ rules) (suc (suc i)) low high = some_right rules (suc i) (omega arith) (omega arith)
 
 module _ (rules : Rules) (table : List ℕ) (is : table ≡ right_nodes_from 0 rules) where
   pub length-right_table : length table ≡ length rules

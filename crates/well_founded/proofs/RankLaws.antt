@@ -9,31 +9,26 @@ use Rattle.spec_syntax.specs.Expression.{Expression}
 use Rattle.spec_syntax.specs.Rules.{Rules, is_same_name, symbol, all_nodes}
 use Rattle.spec_syntax.specs.Grammar.{Grammar}
 use Rattle.lists.specs.Enumeration.{IsIn}
+use Rattle.spec_syntax.proofs.NodeRanges.{child_within}
 use Rattle.well_founded.specs.Least.{IsSize, least_with, size_of_name}
 use Rattle.well_founded.specs.WellFounded.{may_hold_cycles, HoldsCycle, HoldsNull, OfNone, IsEndless, IsEachProductive, IsWellFounded}
-use Rattle.well_founded.specs.Nodes.{node_at, right_node, below}
+use Rattle.spec_syntax.specs.Nodes.{node_at, right_node, below}
 use Rattle.well_founded.specs.Rank.{CanFill, AreRanks}
 use Rattle.graphs.specs.Graph.{Graph, next, LeadsBy, Leads, IsGraph, count_true, IsCount, AreCounts}
 use Rattle.well_founded.specs.SameSize.{followers_from, same_size_graph}
 use Rattle.well_founded.proofs.CyclesLaws.{node_allowed}
-use Rattle.well_founded.proofs.NodesLaws.{in_of_get, found_rule}
+use Rattle.lists.proofs.Places.{in_of_get}
 use Rattle.graphs.proofs.Reached.{step_leads, leads_trans}
 use Rattle.graphs.proofs.Counts.{count_falls, count_within, counts_exist}
 use Rattle.well_founded.proofs.SameSizeLaws.{fills}
 use Rattle.well_founded.proofs.SameSizeSteps.{IsStep, from_step, step_at}
-use Rattle.well_founded.proofs.SameSizeRoots.{child_within}
+use Rattle.spec_syntax.proofs.RulesLemmas.{found_rule, own_name}
 use Rattle.well_founded.proofs.EndlessLaws.{node_full, leads_holds}
 use Rattle.well_founded.proofs.LeastRounds.{sizes_exist}
 
 followers-length : (rules : Rules) (sizes : Expression → Option ℕ) (n : ℕ) (es : List Expression) → length (followers_from rules sizes n es) ≡ length es
 followers-length rules sizes n [] = refl
 followers-length rules sizes n (e ∷ es) = ap suc (followers-length rules sizes (suc n) es)
-
--- a name with a rule is the rule's own
-pub own_name : (rules : Rules) (name : List ℕ) (r : ℕ) → symbol rules name ≡ Some r → (right : Expression) × IsIn (name, right) rules
-own_name rules name r numbered =
-    let found = found_rule (λ rule. is_same_name rule.0 name) rules 1 r numbered in
-    (found.1.1, subst (λ (own : List ℕ). IsIn (own, found.1.1) rules) (same_text found.1.0 name (sym found.4)) (in_of_get rules found.0 found.1 found.3))
 
 module _ (g : Grammar) (sizes : Expression → Option ℕ) where
   abbrev graph : Graph

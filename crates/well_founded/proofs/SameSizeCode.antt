@@ -8,10 +8,11 @@ use Rattle.spec_syntax.specs.Expression as expr
 use Rattle.spec_syntax.specs.Expression.{Expression, preorder, nodes, expressions_of, expression_list}
 use Rattle.spec_syntax.specs.Rules.{Rules, symbol, right_side, all_nodes}
 use Rattle.graphs.specs.Graph.{Graph}
-use Rattle.well_founded.specs.Nodes.{right_node}
+use Rattle.spec_syntax.specs.Nodes.{right_node}
 use Rattle.well_founded.specs.NodeTable.{right_nodes_from}
 use Rattle.well_founded.specs.SameSize.{is_null, alone_from, is_told_inside, picked, followers, followers_from}
-use Rattle.well_founded.proofs.NodeSteps.{expressions_step}
+use Rattle.spec_syntax.proofs.NodeSteps.{expressions_step}
+use Rattle.spec_syntax.proofs.ExpressionLemmas.{list_of}
 
 -- ---- what is picked
 
@@ -42,10 +43,6 @@ picked_end flags nodes row i past = ap (λ others. row ++ others) (nothing (case
     nothing (inr beyond) = ap (λ fs. picked fs (drop i nodes)) (drop_all i flags beyond)
 
 -- ---- flags
-
-pub list_of : (es : List Expression) → expression_list (expressions_of es) ≡ es
-list_of [] = refl
-list_of (e ∷ es) = ap (λ others. e ∷ others) (list_of es)
 
 module _ (sizes : Expression → Option ℕ) where
   pub alone_step : (before : Bool) (es : List Expression) (i : ℕ) (e : Expression) → i < length es → e ≡ get_or es i e

@@ -92,7 +92,7 @@ module _ (g : Grammar) (e : Expression) (full : (s : Structure) → is_of g e s 
 -- ---- what least sizes tell
 
 module _ (g : Grammar) (sizes : Expression → Option ℕ) (sized : (e : Expression) → may_hold_cycles g e ≡ true → IsSize g e (sizes e)) where
-  some_size : (e : Expression) (s : Structure) → may_hold_cycles g e ≡ true → IsOf g e s → is_some (sizes e) ≡ true
+  pub some_size : (e : Expression) (s : Structure) → may_hold_cycles g e ≡ true → IsOf g e s → is_some (sizes e) ≡ true
   some_size e s allowed of = by (sizes e) (sized e allowed)
     where
       by : (o : Option ℕ) → IsSize g e o → is_some o ≡ true

@@ -6,11 +6,11 @@ use Rattle.spec_syntax.specs.Expression as expr
 use Rattle.spec_syntax.specs.Expression.{Expression, Expressions, no_expressions, more_expressions, expression_list, nodes}
 use Rattle.spec_syntax.specs.Rules.{Rules, symbol, right_side, all_nodes}
 use Rattle.lists.specs.Enumeration.{IsIn}
-use Rattle.well_founded.specs.Nodes.{node_at, right_node, places_from, children_of, below}
-use Rattle.well_founded.specs.NodeView.{arguments_of}
+use Rattle.spec_syntax.specs.Nodes.{node_at, right_node, places_from, children_of, below, arguments_of}
+use Rattle.spec_syntax.proofs.NodesLemmas.{node_stands, stands_at, child_stands, right_node_is}
 use Rattle.graphs.specs.Graph.{Graph, next}
 use Rattle.well_founded.specs.SameSize.{fillable, picked, followers, followers_from, same_size_graph}
-use Rattle.well_founded.proofs.NodesLaws.{node_stands, stands_at, child_stands, right_node_is, symbol_right}
+use Rattle.spec_syntax.proofs.RulesLemmas.{symbol_right}
 use Rattle.well_founded.proofs.SameSizeLaws.{inner}
 
 -- ---- what is picked
@@ -60,7 +60,7 @@ child_inner rules n e place m at child =
     (found.0, found.1, stands_at (all_nodes rules) m found.0 found.2)
 
 -- at a node below one stands the expression of the place
-below_inner : (rules : Rules) (n : ℕ) (e : Expression) (place m : ℕ) → node_at rules n ≡ Some e → slice_get (below rules n e) place ≡ Some m → Inner rules e place m
+pub below_inner : (rules : Rules) (n : ℕ) (e : Expression) (place m : ℕ) → node_at rules n ≡ Some e → slice_get (below rules n e) place ≡ Some m → Inner rules e place m
 below_inner rules n expr.Epsilon place m at there = absurd (cc)
 below_inner rules n expr.Atom place m at there = absurd (cc)
 below_inner rules n (expr.Name name) zero m at there = name_inner rules (symbol rules name) name refl m there
@@ -76,7 +76,7 @@ name_below rules None f at = absurd (cc)
 name_below rules (Some number) f at = (right_node rules number, refl)
 
 -- and at each place stands a node
-inner_below : (rules : Rules) (n : ℕ) (e : Expression) (place : ℕ) (f : Expression) → inner rules e place ≡ Some f → (m : ℕ) × (slice_get (below rules n e) place ≡ Some m)
+pub inner_below : (rules : Rules) (n : ℕ) (e : Expression) (place : ℕ) (f : Expression) → inner rules e place ≡ Some f → (m : ℕ) × (slice_get (below rules n e) place ≡ Some m)
 inner_below rules n expr.Epsilon place f at = absurd (cc)
 inner_below rules n expr.Atom place f at = absurd (cc)
 inner_below rules n (expr.Name name) zero f at = name_below rules (symbol rules name) f at

@@ -8,7 +8,7 @@ use Rattle.spec_syntax.specs.Expression.{Expression, preorder, preorder_of_all, 
 use Rattle.spec_syntax.specs.Rules.{Rules, right_side}
 use Rattle.well_founded.specs.Names.{name_in, used_names, names_used_in}
 use Rattle.well_founded.specs.UsedNames.{used_in_all}
-use Rattle.well_founded.proofs.NodeSteps.{next_rule}
+use Rattle.spec_syntax.proofs.NodeSteps.{next_rule}
 
 -- the names in the arguments of an expression are those in each of them
 pub used_in-arguments : (es : List Expression) → flat_map name_in (preorder_of_all (expressions_of es)) ≡ used_in_all es

@@ -6,7 +6,7 @@ use Rattle.spec_syntax.specs.Rules.{Rules, is_spec, all_nodes}
 use Rattle.spec_syntax.specs.Grammar.{Grammar}
 use Rattle.well_founded.specs.Sizes.{IsLeast}
 use Rattle.well_founded.specs.WellFounded.{IsWellFounded}
-use Rattle.well_founded.specs.Nodes.{node_at}
+use Rattle.spec_syntax.specs.Nodes.{node_at}
 use Rattle.well_founded.specs.Rank.{AreRanks}
 
 -- the rules, the universe, the number of the class's rule where there is a class symbol, and the least sizes and the ranks of

@@ -3,14 +3,12 @@ pub mod Sets
 pub mod Sizes
 pub mod Inside
 pub mod WellFounded
-pub mod Nodes
 pub mod Rank
 pub mod Checked
 pub mod Least
 pub mod Laws
 pub mod SameSize
 pub mod Containers
-pub mod NodeView
 pub mod NodeKinds
 pub mod NodeTable
 pub mod UsedNames

@@ -8,7 +8,7 @@ use Rattle.well_founded.specs.declared.node.Node.{Node}
 use Rattle.well_founded.specs.declared.node.Node.TheVariants as node
 use Rattle.well_founded.specs.declared.node.NodeKind.{NodeKind}
 use Rattle.well_founded.specs.declared.node.NodeKind.TheVariants as told
-use Rattle.well_founded.specs.Nodes.{places_from}
+use Rattle.spec_syntax.specs.Nodes.{places_from}
 use Rattle.well_founded.specs.NodeKinds.{container}
 
 -- what a node of the code is, the nodes directly inside it, the rule that it names, or 0, and its bound, or none

@@ -7,7 +7,7 @@ use Rattle.spec_syntax.specs.Expression as expr
 use Rattle.spec_syntax.specs.Expression.{Expression, Expressions, no_expressions, more_expressions, expression_list}
 use Rattle.spec_syntax.specs.Rules.{Rules, symbol, right_side, all_nodes}
 use Rattle.struct_model.specs.Membership.{is_epsilon, is_atom}
-use Rattle.well_founded.specs.Nodes.{below}
+use Rattle.spec_syntax.specs.Nodes.{below}
 use Rattle.graphs.specs.Graph.{Graph}
 
 -- is the least size 0

@@ -24,7 +24,7 @@ fn is_without_cycle(expr: &Expr) -> bool
 
 /// Whether no Cycle stands in the expressions.
 #[cycle(cycles)]
-#[tactic(auto, using(crate::proofs::ContainerSteps::all_step, crate::proofs::NodeSteps::nodes_of_one))]
+#[tactic(auto, using(crate::proofs::ContainerSteps::all_step, spec_syntax::proofs::NodeSteps::nodes_of_one))]
 fn are_without_cycle(exprs: &[Expr]) -> bool
     ensures { result ≡ list_all is_no_cycle (preorder_of_all (expressions_of exprs.now)) }
 {
@@ -74,7 +74,7 @@ fn is_without_null(spec: &Spec, sizes: &[Option<u32>], expr: &Expr) -> bool
 
 /// Whether no container in the expressions stands over one that can be empty.
 #[cycle(nulls)]
-#[tactic(auto, using(crate::proofs::ContainerSteps::all_step, crate::proofs::NodeSteps::nodes_of_one))]
+#[tactic(auto, using(crate::proofs::ContainerSteps::all_step, spec_syntax::proofs::NodeSteps::nodes_of_one))]
 fn are_without_null(spec: &Spec, sizes: &[Option<u32>], exprs: &[Expr]) -> bool
     requires for_each { length sizes.now ≡ length spec.now }
     requires small { All IsSmall sizes.now }

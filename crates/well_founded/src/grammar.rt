@@ -4,10 +4,10 @@ ghost use Rattle.spec_syntax.specs.Expression.{Expression};
 ghost use Rattle.spec_syntax.specs.Rules.{symbol, right_side, all_nodes};
 ghost use Rattle.well_founded.specs.declared.node.NodeKind.TheVariants.{Rule};
 ghost use Rattle.well_founded.specs.Sizes.{IsLeast};
-ghost use Rattle.well_founded.specs.Nodes.{node_at, right_node};
-ghost use Rattle.well_founded.specs.NodeKinds.{kind_of, is_container, card_at, name_at, children_at, arguments_at};
+ghost use Rattle.spec_syntax.specs.Nodes.{node_at, right_node, card_at, name_at, children_at, arguments_at};
+ghost use Rattle.well_founded.specs.NodeKinds.{kind_of, is_container};
 ghost use Rattle.well_founded.specs.NodeTable.{nodes_of, right_nodes_from};
-ghost use Rattle.well_founded.specs.Rank.{IsRank};
+ghost use Rattle.well_founded.specs.Rank.{IsRank, FallsBySizes};
 ghost use Rattle.well_founded.specs.Checked.{IsChecked, grammar};
 
 use crate::NodeKind;
@@ -146,11 +146,13 @@ impl Grammar {
     }
 
     /// The rank of the node. It is below the number of nodes, and above the rank of each child, or named rule's node, whose
-    /// structure can stand directly inside one of this node's of the same size, with each PowerSet read as Set.
+    /// structure can stand directly inside one of this node's of the same size, with each PowerSet read as Set. Where that is so
+    /// is also told by least sizes alone.
     pub fn rank(&self, node: u32) -> u32
         requires { node < length (all_nodes self.now.rules) }
         ensures value { slice_get self.now.ranks node ≡ Some result }
         ensures rank { (e : Expression) → node_at self.now.rules node ≡ Some e → IsRank (grammar self.now) self.now.ranks node e result }
+        ensures falls { (e : Expression) → node_at self.now.rules node ≡ Some e → FallsBySizes self.now.rules self.now.leasts self.now.ranks node e result }
         ensures within { result < length (all_nodes self.now.rules) }
     {
         self.ranks[node as usize]

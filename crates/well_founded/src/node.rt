@@ -1,7 +1,7 @@
 //! The nodes of a grammar: the expressions in its rules, numbered from 0 in preorder, rule by rule.
 ghost use Rattle.std.specs.Prelude.{◌≡◌, [], ◌∷◌, ◌+◌, ◌++◌, ◌≤◌, ◌<◌, Some, length, slice_get, IfOk, OnOk};
 ghost use Rattle.spec_syntax.specs.Expression.{nodes, nodes_of_all, preorder, preorder_of_all, expressions_of};
-ghost use Rattle.well_founded.specs.Nodes.{places_from};
+ghost use Rattle.spec_syntax.specs.Nodes.{places_from};
 ghost use Rattle.well_founded.specs.NodeTable.{node_kind, node_children, node_rule, node_card, nodes_from, nodes_of, right_nodes_from};
 
 use seq::Seq;
@@ -116,7 +116,7 @@ fn count(expr: &Expr) -> u32
 
 /// The number of expressions in these expressions.
 #[cycle(counting)]
-#[tactic(auto, using(crate::proofs::NodeSteps::nodes_step, crate::proofs::NodeSteps::nodes_of_one))]
+#[tactic(auto, using(spec_syntax::proofs::NodeSteps::nodes_step, spec_syntax::proofs::NodeSteps::nodes_of_one))]
 fn count_all(exprs: &[Expr]) -> u32
     requires { nodes_of_all (expressions_of exprs.now) ≤ 128 }
     ensures { result ≡ nodes_of_all (expressions_of exprs.now) }
@@ -129,7 +129,7 @@ fn count_all(exprs: &[Expr]) -> u32
 }
 
 /// The numbers of these expressions, which follow one another, as nodes from `first` on.
-#[tactic(auto, using(crate::proofs::NodeSteps::nodes_step, crate::proofs::NodeSteps::nodes_of_one, crate::proofs::NodeSteps::places_step))]
+#[tactic(auto, using(spec_syntax::proofs::NodeSteps::nodes_step, spec_syntax::proofs::NodeSteps::nodes_of_one, spec_syntax::proofs::NodeSteps::places_step))]
 pub(crate) fn places(alloc: Global, first: u32, exprs: &[Expr]) -> Result<Seq<u32>, AllocError>
     requires { first + nodes_of_all (expressions_of exprs.now) ≤ 128 }
     ensures { IfOk result (λ places. places ≡ places_from first (expressions_of exprs.now)) }

@@ -137,7 +137,7 @@ fn element_followers(alloc: Global, flag: bool, element: u32) -> Result<Seq<u32>
 
 /// The nodes whose structures can stand directly inside those of the expression, which is node number `number`, of the
 /// same size.
-#[tactic(auto, using(crate::proofs::SameSizeCode::list_of))]
+#[tactic(auto, using(spec_syntax::proofs::ExpressionLemmas::list_of))]
 fn followers(
     alloc: Global,
     spec: &Spec,

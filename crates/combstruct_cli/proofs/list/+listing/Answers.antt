@@ -3,8 +3,7 @@ use Rattle.std.proofs.lemmas.Result.{IfOk-weaker}
 use Rattle.spec_syntax.specs.Rules.{all_nodes}
 use Rattle.struct_model.specs.Structure.{Eps, Atom}
 use Rattle.well_founded.specs.declared.node.NodeKind.TheVariants as told
-use Rattle.well_founded.specs.Nodes.{right_node}
-use Rattle.well_founded.specs.NodeKinds.{children_at}
+use Rattle.spec_syntax.specs.Nodes.{right_node, children_at}
 use Rattle.listing_laws.specs.Lister.{product, sequence, named}
 use Rattle.combstruct_cli.specs.Columns.{of_size, column_to, only_at, only_label, HaveFewAtoms, alternatives_at}
 use Rattle.combstruct_cli.specs.NodeListing.{HasKind, IsElement, listing_of_node, listing_of_rule, least_at, rank_at, rule_rank, column_of, components_from, repeated_of}

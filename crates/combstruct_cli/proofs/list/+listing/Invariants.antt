@@ -1,7 +1,7 @@
 use Rattle.std.proofs.Common.{◌≡◌, ◌+◌, ◌*◌, length, map, take}
 use Rattle.std.specs.List.{range_with_len}
 use Rattle.spec_syntax.specs.Rules.{all_nodes}
-use Rattle.well_founded.specs.NodeKinds.{children_at}
+use Rattle.spec_syntax.specs.Nodes.{children_at}
 use Rattle.combstruct_cli.specs.Columns.{column_to}
 use Rattle.combstruct_cli.specs.NodeListing.{listing_of_node, least_at, column_of, rank_at, rule_rank}
 use Rattle.combstruct_cli.proofs.list.+listing.Given as goal

@@ -1,6 +1,6 @@
 use Rattle.std.proofs.Common.{◌≡◌, ℕ, ◌+◌, ◌-◌, ◌≤◌, [], length, slice_get, Some, sym, ap, ◌∙◌, arith}
 use Rattle.well_founded.specs.declared.node.NodeKind.TheVariants as told
-use Rattle.well_founded.specs.NodeKinds.{children_at}
+use Rattle.spec_syntax.specs.Nodes.{children_at}
 use Rattle.combstruct_cli.specs.Columns.{column_to, only_at, joined_by}
 use Rattle.combstruct_cli.specs.NodeListing.{least_at, least_from, column_of, components_from}
 use Rattle.combstruct_cli.proofs.ColumnLemmas.{column_same}

@@ -1,5 +1,5 @@
 use Rattle.std.proofs.Common.{◌≡◌, ◌+◌, ◌≤◌, length}
-use Rattle.well_founded.specs.NodeKinds.{children_at}
+use Rattle.spec_syntax.specs.Nodes.{children_at}
 use Rattle.combstruct_cli.specs.Columns.{column_to}
 use Rattle.combstruct_cli.specs.NodeListing.{least_from, components_from}
 use Rattle.combstruct_cli.proofs.list.list_components.Given as goal

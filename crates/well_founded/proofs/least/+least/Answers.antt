@@ -1,6 +1,6 @@
 use Rattle.std.proofs.Common.{◌≤◌, sym, subst, arith}
 use Rattle.spec_syntax.specs.Expression.{Expression, nodes, nodes_of_all, expressions_of}
-use Rattle.spec_syntax.proofs.ExpressionLemmas.{nodes-get_or_le}
+use Rattle.spec_syntax.proofs.NodeSteps.{nodes_of_one}
 use Rattle.well_founded.specs.Least.{IsSmall, size_of_name}
 use Rattle.well_founded.proofs.LeastRounds.{least_small, name_small}
 use Rattle.well_founded.proofs.LeastLoops.{least_of_all-start}
@@ -8,16 +8,14 @@ use Rattle.well_founded.proofs.least.+least.Goals as goal
 
 pub least_of_some-least_in-requires : goal.least_of_some-least_in-requires
 least_of_some-least_in-requires t c =
-    let P : Expression → Type 0 = λ e. nodes e ≤ nodes_of_all (expressions_of c.args.exprs.now) in
     let small : nodes c.expr-item.result ≤ nodes_of_all (expressions_of c.args.exprs.now) =
-    subst P (sym c.expr-item.is) (nodes-get_or_le c.args.exprs.now c.loop-expr.expr-index c.expr-item.result c.loop-expr-test.true) in
+    nodes_of_one c.args.exprs.now c.loop-expr.expr-index c.expr-item.result c.loop-expr-test.true c.expr-item.is in
     (omega (arith, c.decreases, small), (c.requires.for_each, c.requires.small))
 
 pub least_of_all-least_in-requires : goal.least_of_all-least_in-requires
 least_of_all-least_in-requires t c =
-    let P : Expression → Type 0 = λ e. nodes e ≤ nodes_of_all (expressions_of c.args.exprs.now) in
     let small : nodes c.expr-item.result ≤ nodes_of_all (expressions_of c.args.exprs.now) =
-    subst P (sym c.expr-item.is) (nodes-get_or_le c.args.exprs.now c.loop-expr.expr-index c.expr-item.result c.loop-expr-test.true) in
+    nodes_of_one c.args.exprs.now c.loop-expr.expr-index c.expr-item.result c.loop-expr-test.true c.expr-item.is in
     (omega (arith, c.decreases, small), (c.requires.for_each, c.requires.small))
 
 pub least_of_all-loop-expr-init : goal.least_of_all-loop-expr-init

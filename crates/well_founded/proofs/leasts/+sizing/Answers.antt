@@ -1,6 +1,6 @@
 use Rattle.std.proofs.Common.{◌≤◌, arith}
 use Rattle.spec_syntax.specs.Expression.{nodes, nodes_of_all, expressions_of}
-use Rattle.well_founded.proofs.NodeSteps.{nodes_of_one}
+use Rattle.spec_syntax.proofs.NodeSteps.{nodes_of_one}
 use Rattle.well_founded.proofs.leasts.+sizing.Goals as goal
 
 pub push_all_leasts-push_leasts-requires : goal.push_all_leasts-push_leasts-requires

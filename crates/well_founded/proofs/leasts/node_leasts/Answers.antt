@@ -3,7 +3,7 @@ use Rattle.std.proofs.lemmas.List.{append_assoc, map-append}
 use Rattle.spec_syntax.specs.Expression.{preorder}
 use Rattle.spec_syntax.specs.Rules.{all_nodes}
 use Rattle.well_founded.specs.Least.{least_by}
-use Rattle.well_founded.proofs.NodeSteps.{all_nodes_step}
+use Rattle.spec_syntax.proofs.NodeSteps.{all_nodes_step}
 use Rattle.well_founded.proofs.leasts.node_leasts.Goals as goal
 
 pub loop-place-preserved : goal.loop-place-preserved

@@ -2,7 +2,7 @@ use Rattle.std.proofs.Common.{◌≡◌, ◌≤◌, ◌+◌, drop, find, Option,
 use Rattle.std.specs.Option.{option_or}
 use Rattle.spec_syntax.specs.Expression.{Expression, Union, Prod, nodes, nodes_of_all, expressions_of}
 use Rattle.spec_syntax.specs.ExpressionView.{expression_of}
-use Rattle.spec_syntax.proofs.ExpressionLemmas.{nodes-get_or_le}
+use Rattle.spec_syntax.proofs.NodeSteps.{nodes_of_one}
 use Rattle.well_founded.specs.Names.{used_names}
 use Rattle.well_founded.specs.UsedNames.{lacks_rule, used_in_all}
 use Rattle.well_founded.proofs.UsedNamesLaws.{used_in-arguments, find-used_in_all}
@@ -24,9 +24,8 @@ first_name-returns-in-Prod t c =
 
 pub first_name_of-first_name-requires : goal.first_name_of-first_name-requires
 first_name_of-first_name-requires t c =
-    let P : Expression → Type 0 = λ e. nodes e ≤ nodes_of_all (expressions_of c.args.exprs.now) in
     let small : nodes c.expr-item.result ≤ nodes_of_all (expressions_of c.args.exprs.now) =
-    subst P (sym c.expr-item.is) (nodes-get_or_le c.args.exprs.now c.loop-expr.expr-index c.expr-item.result c.loop-expr-test.true) in
+    nodes_of_one c.args.exprs.now c.loop-expr.expr-index c.expr-item.result c.loop-expr-test.true c.expr-item.is in
     (omega (arith, c.decreases, small), tt)
 
 pub first_name_of-returns-in-Some : goal.first_name_of-returns-in-Some

@@ -1,6 +1,7 @@
 use Rattle.std.proofs.Common.{◌≤◌, ◌+◌, drop, arith, ◌∙◌}
 use Rattle.spec_syntax.specs.Expression.{nodes, nodes_of_all, preorder, preorder_of_all, expressions_of}
-use Rattle.well_founded.proofs.NodeSteps.{nodes_step, nodes_of_one, preorder_step, block_step, grown_length}
+use Rattle.spec_syntax.proofs.NodeSteps.{nodes_step, nodes_of_one, preorder_step}
+use Rattle.well_founded.proofs.NodeSteps.{block_step, grown_length}
 use Rattle.well_founded.proofs.node.+numbering.Goals as goal
 
 pub push_all_nodes-push_nodes-requires : goal.push_all_nodes-push_nodes-requires

@@ -2,7 +2,8 @@ use Rattle.std.proofs.Common.{◌≤◌, ◌+◌, length, drop, arith, ◌∙◌
 use Rattle.spec_syntax.specs.Expression.{preorder}
 use Rattle.spec_syntax.specs.Rules.{all_nodes}
 use Rattle.spec_syntax.proofs.RulesLemmas.{all_nodes-from_spec}
-use Rattle.well_founded.proofs.NodeSteps.{all_nodes_step, length_all_nodes_step, block_step, grown_length}
+use Rattle.spec_syntax.proofs.NodeSteps.{all_nodes_step, length_all_nodes_step}
+use Rattle.well_founded.proofs.NodeSteps.{block_step, grown_length}
 use Rattle.well_founded.proofs.node.nodes_of_rules.Goals as goal
 
 pub push_nodes-requires : goal.push_nodes-requires

@@ -1,6 +1,6 @@
 use Rattle.std.proofs.Common.{◌≡◌, ◌+◌, ◌++◌, drop}
 use Rattle.spec_syntax.specs.Expression.{nodes_of_all, expressions_of}
-use Rattle.well_founded.specs.Nodes.{places_from}
+use Rattle.spec_syntax.specs.Nodes.{places_from}
 use Rattle.well_founded.proofs.node.places.Given as goal
 
 abbrev pub invariant-loop-expr : goal.invariant-loop-expr

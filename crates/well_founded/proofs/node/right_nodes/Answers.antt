@@ -2,8 +2,9 @@ use Rattle.std.proofs.Common.{◌≤◌, ◌+◌, ◌++◌, [], ◌∷◌, ℕ, 
 use Rattle.std.proofs.lemmas.List.{append_assoc}
 use Rattle.spec_syntax.specs.Rules.{all_nodes}
 use Rattle.spec_syntax.proofs.RulesLemmas.{all_nodes-from_spec}
+use Rattle.spec_syntax.proofs.NodeSteps.{length_all_nodes_step}
 use Rattle.well_founded.specs.NodeTable.{right_nodes_from}
-use Rattle.well_founded.proofs.NodeSteps.{length_all_nodes_step, right_nodes_step}
+use Rattle.well_founded.proofs.NodeSteps.{right_nodes_step}
 use Rattle.well_founded.proofs.node.right_nodes.Goals as goal
 
 pub count-next-requires : goal.count-next-requires

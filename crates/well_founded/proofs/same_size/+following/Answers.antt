@@ -1,7 +1,7 @@
 use Rattle.std.proofs.Common.{◌≤◌, ◌+◌, drop, arith, ◌∙◌}
 use Rattle.spec_syntax.specs.Expression.{nodes, nodes_of_all, preorder, preorder_of_all, expressions_of}
 use Rattle.well_founded.specs.Least.{least_with, size_of_name}
-use Rattle.well_founded.proofs.NodeSteps.{nodes_step, nodes_of_one, preorder_step}
+use Rattle.spec_syntax.proofs.NodeSteps.{nodes_step, nodes_of_one, preorder_step}
 use Rattle.well_founded.proofs.SameSizeCode.{rows_step, grown_rows}
 use Rattle.well_founded.proofs.same_size.+following.Goals as goal
 

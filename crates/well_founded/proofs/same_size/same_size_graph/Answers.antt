@@ -3,7 +3,7 @@ use Rattle.spec_syntax.specs.Expression.{preorder}
 use Rattle.spec_syntax.specs.Rules.{all_nodes}
 use Rattle.spec_syntax.proofs.RulesLemmas.{all_nodes-from_spec}
 use Rattle.well_founded.specs.Least.{least_with, size_of_name}
-use Rattle.well_founded.proofs.NodeSteps.{all_nodes_step, length_all_nodes_step}
+use Rattle.spec_syntax.proofs.NodeSteps.{all_nodes_step, length_all_nodes_step}
 use Rattle.well_founded.proofs.SameSizeCode.{rows_step, grown_rows}
 use Rattle.well_founded.proofs.same_size.same_size_graph.Goals as goal
 

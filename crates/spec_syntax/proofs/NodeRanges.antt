@@ -1,19 +1,12 @@
--- The right sides' nodes stand inside no other node, and no two rules have one.
+-- The nodes of an expression follow one another, so that no right side's node stands inside another node and no two rules have one.
 use Rattle.std.proofs.Common.{◌≡◌, inl, inr, ℕ, zero, suc, ◌+◌, ◌≤◌, ◌<◌, [], ◌∷◌, ◌++◌, length, take, sym, subst, arith, slice_get, Some, length-append}
 use Rattle.std.proofs.lemmas.Bool.{cases_lt, cases_order}
 use Rattle.spec_syntax.specs.Expression as expr
 use Rattle.spec_syntax.specs.Expression.{Expression, Expressions, no_expressions, more_expressions, preorder, preorder_of_all, nodes, nodes_of_all}
 use Rattle.spec_syntax.specs.Rules.{Rules, all_nodes}
-use Rattle.well_founded.specs.Nodes.{node_at, places_from, children_of}
-use Rattle.well_founded.proofs.NodesLaws.{get_either}
-
-some_nodes : (e : Expression) → 1 ≤ nodes e
-some_nodes expr.Epsilon = omega arith
-some_nodes expr.Atom = omega arith
-some_nodes (expr.Name name) = omega arith
-some_nodes (expr.Union es) = omega arith
-some_nodes (expr.Prod es) = omega arith
-some_nodes (expr.Many kind element card) = omega arith
+use Rattle.spec_syntax.specs.Nodes.{node_at, places_from, children_of}
+use Rattle.spec_syntax.proofs.NodesLemmas.{nodes-positive}
+use Rattle.lists.proofs.Places.{get_either}
 
 no_more : (e f : Expression) → Some e ≡ Some f → 0 + nodes f ≤ nodes e
 no_more e f same =
@@ -53,7 +46,7 @@ place_within : (n : ℕ) (es : Expressions) (i m : ℕ) → slice_get (places_fr
 place_within n no_expressions i m at = absurd (cc)
 place_within n (more_expressions e es) zero m at =
     let same : n ≡ m = cc in
-    (omega arith, omega (arith, length-append (preorder e) (preorder_of_all es), some_nodes e))
+    (omega arith, omega (arith, length-append (preorder e) (preorder_of_all es), nodes-positive e))
 place_within n (more_expressions e es) (suc i) m at =
     let rest : (n + nodes e ≤ m) × (m < n + nodes e + nodes_of_all es) = place_within (n + nodes e) es i m at in
     (omega (arith, rest.0), omega (arith, rest.1, length-append (preorder e) (preorder_of_all es)))
@@ -67,7 +60,7 @@ child_within n (expr.Union es) i m at = let found = place_within (n + 1) es i m 
 child_within n (expr.Prod es) i m at = let found = place_within (n + 1) es i m at in (omega (arith, found.0), omega (arith, found.1))
 child_within n (expr.Many kind element card) zero m at =
     let same : n + 1 ≡ m = cc in
-    (omega arith, omega (arith, some_nodes element))
+    (omega arith, omega (arith, nodes-positive element))
 child_within n (expr.Many kind element card) (suc i) m at = absurd (cc)
 
 -- the number of nodes of the first rules
@@ -84,7 +77,7 @@ first_up (rule ∷ rules) (suc i) (suc j) h =
 
 first_next : (rules : Rules) (i : ℕ) → i < length rules → first_nodes rules i < first_nodes rules (suc i)
 first_next [] i h = absurd (omega arith)
-first_next (rule ∷ rules) zero h = omega (arith, length-append (preorder rule.1) (all_nodes (take 0 rules)), some_nodes rule.1)
+first_next (rule ∷ rules) zero h = omega (arith, length-append (preorder rule.1) (all_nodes (take 0 rules)), nodes-positive rule.1)
 first_next (rule ∷ rules) (suc i) h =
     omega (arith, first_next rules i (omega arith), length-append (preorder rule.1) (all_nodes (take i rules)), length-append (preorder rule.1) (all_nodes (take (suc i) rules)))
 
