@@ -1,15 +1,16 @@
 -- The numbers of nodes: what stands at the nodes inside an expression, at those below it and at a rule's right side.
-use Rattle.std.proofs.Common.{◌≡◌, ℕ, zero, suc, ◌+◌, ◌<◌, Bool, true, List, [], ◌∷◌, ◌++◌, length, take, slice_get, Option, Some, None, option_map, refl, sym, ap, ◌∙◌, subst, inl, inr, arith, length-append, ◌≤◌}
+use Rattle.std.proofs.Common.{◌≡◌, ℕ, zero, suc, ◌+◌, ◌<◌, Bool, true, List, [], ◌∷◌, ◌++◌, length, take, slice_get, Option, Some, None, option_map, refl, sym, ap, ◌∙◌, subst, inl, inr, arith, length-append, ◌≤◌, ◌-◌, drop, get_or}
 use Rattle.std.specs.List.{list_all}
 use Rattle.std.specs.Option.{option_map_or}
 use Rattle.std.proofs.lemmas.Bool.{and_parts, and_from}
-use Rattle.std.proofs.lemmas.Option.{slice_get_within}
+use Rattle.std.proofs.lemmas.Option.{slice_get_within, slice_get-get_or, get_or_from_slice_get}
 use Rattle.spec_syntax.specs.Expression as expr
 use Rattle.spec_syntax.specs.Expression.{Expression, Expressions, no_expressions, more_expressions, expression_list, preorder, preorder_of_all, nodes}
 use Rattle.spec_syntax.specs.Rules.{Rules, symbol, right_side, all_nodes}
-use Rattle.spec_syntax.specs.Nodes.{node_at, right_node, places_from, children_of, arguments_of, below}
+use Rattle.spec_syntax.specs.Nodes.{all_right_nodes, node_at, right_node, places_from, children_of, arguments_of, below}
 use Rattle.spec_syntax.proofs.RulesLemmas.{symbol_right}
 use Rattle.lists.specs.Enumeration.{IsIn}
+use Rattle.lists.proofs.Indexed.{length-made, get-made}
 use Rattle.lists.proofs.Places.{Holds, get_either, holds_itself, holds_left, holds_right, holds_tail, holds_within, in_of_get, get_of_in}
 
 -- ---- nodes inside an expression
@@ -218,3 +219,29 @@ all_of_rules test (rule ∷ rules) h =
     joined : (xs ys : List Expression) → list_all test xs ≡ true → list_all test ys ≡ true → list_all test (xs ++ ys) ≡ true
     joined [] ys first others = others
     joined (x ∷ xs) ys first others = let parts = and_parts (test x) (list_all test xs) first in and_from _ _ parts.0 (joined xs ys parts.1 others)
+
+-- ---- the table of right sides' nodes
+
+pub length-all_right_nodes : (rules : Rules) → length (all_right_nodes rules) ≡ length rules
+length-all_right_nodes rules = length-made (λ (rule : ℕ × (List ℕ × Expression)). right_node rules rule.0) 1 rules
+
+pub get-all_right_nodes : (rules : Rules) (i : ℕ) → i < length rules → slice_get (all_right_nodes rules) i ≡ Some (right_node rules (suc i))
+get-all_right_nodes rules i within =
+    get-made (λ (rule : ℕ × (List ℕ × Expression)). right_node rules rule.0) 1 i (suc i) rules (omega arith)
+    ∙ ap (option_map (λ (rule : List ℕ × Expression). right_node rules (suc i))) (slice_get-get_or rules i ([], expr.Epsilon) within)
+
+pub read-all_right_nodes : (rules : Rules) (number d : ℕ) → 1 ≤ number → number ≤ length rules → get_or (all_right_nodes rules) (number - 1) d ≡ right_node rules number
+read-all_right_nodes rules zero d low high = absurd (omega arith)
+read-all_right_nodes rules (suc i) d low high =
+    ap (λ (k : ℕ). get_or (all_right_nodes rules) k d) less
+    ∙ get_or_from_slice_get (all_right_nodes rules) i (right_node rules (suc i)) d (get-all_right_nodes rules i (omega arith))
+  where
+    less : suc i - 1 ≡ i
+    less = omega arith
+
+-- the nodes of the first rules and those of the others
+pub all_nodes_split : (rules : Rules) (i : ℕ) → length (all_nodes (take i rules)) + length (all_nodes (drop i rules)) ≡ length (all_nodes rules)
+all_nodes_split rules zero = omega arith
+all_nodes_split [] (suc i) = omega arith
+all_nodes_split (rule ∷ rules) (suc i) =
+    omega (arith, all_nodes_split rules i, length-append (preorder rule.1) (all_nodes (take i rules)), length-append (preorder rule.1) (all_nodes rules))

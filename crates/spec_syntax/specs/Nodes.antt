@@ -83,8 +83,8 @@ right_node rules zero = 0
 right_node rules (suc earlier) = length (all_nodes (take earlier rules))
 
 -- the nodes of all right sides, rule by rule
-abbrev pub right_nodes : Rules → List ℕ
-right_nodes rules = map (λ rule. right_node rules rule.0) (enumerate_from 1 rules)
+abbrev pub all_right_nodes : Rules → List ℕ
+all_right_nodes rules = map (λ rule. right_node rules rule.0) (enumerate_from 1 rules)
 
 -- the nodes whose structures stand directly inside those of the expression, which is node number n: its children, or of
 -- a name the right side of the rule

@@ -21,7 +21,7 @@ use Rattle.well_founded.specs.Names.{name_without_rule, undefined_name}
 use Rattle.well_founded.specs.Sizes.{IsProductive, IsLeast, no_least}
 use Rattle.well_founded.specs.Least.{IsSize, AreSizes, least_with, size_of_name, least_by, leasts_of}
 use Rattle.spec_syntax.specs.Nodes.{node_at, right_node}
-use Rattle.well_founded.specs.NodeTable.{right_nodes_from}
+use Rattle.spec_syntax.specs.Nodes.{all_right_nodes}
 use Rattle.graphs.specs.Graph.{Graph, Leads, IsGraph, AreCounts}
 use Rattle.well_founded.specs.SameSize.{same_size_graph}
 use Rattle.well_founded.specs.Containers.{is_allowed, is_without_null}
@@ -31,7 +31,8 @@ use Rattle.well_founded.specs.Checked.{IsChecked, AreLeasts}
 use Rattle.well_founded.specs.WellFounded.{may_hold_cycles, HoldsItself, OfRule, HoldsCycle, HasNoStructure, HoldsNull, IsEndless, OfNone, IsFirst, IsEachProductive, IsWellFounded, IsCulprit}
 use Rattle.lists.proofs.Places.{in_of_get, get_of_in}
 use Rattle.well_founded.proofs.CyclesLaws.{name_allowed, rule_allowed, node_allowed}
-use Rattle.well_founded.proofs.NodeTables.{get-right_nodes, length-right_nodes, length-right_table, table_right_within}
+use Rattle.spec_syntax.proofs.NodesLemmas.{get-all_right_nodes, length-all_right_nodes}
+use Rattle.well_founded.proofs.NodeTables.{length-right_table, table_right_within}
 use Rattle.well_founded.proofs.EndlessLaws.{endless_is}
 use Rattle.well_founded.proofs.RankLaws.{graph-length, is_graph, are_ranks}
 use Rattle.well_founded.proofs.CheckExists.{same_name, null_where, no_null_where}
@@ -321,30 +322,27 @@ module _ (rules : Rules) (universe : Universe) (table : List (Option ℕ)) (allo
   pub graph_few : length graph ≤ 128
   graph_few = omega (arith, graph-length g sizes, all_nodes-from_spec rules spec)
 
-  root_at : (i : ℕ) (rule : List ℕ × Expression) → slice_get rules i ≡ Some rule → slice_get (right_nodes_from 0 rules) i ≡ Some (right_node rules (suc i))
-  root_at i rule at = get-right_nodes 0 i rules (slice_get_within rules i rule at) ∙ ap Some (number (length (all_nodes (take i rules))))
-    where
-      number : (n : ℕ) → 0 + n ≡ n
-      number n = omega arith
+  root_at : (i : ℕ) (rule : List ℕ × Expression) → slice_get rules i ≡ Some rule → slice_get (all_right_nodes rules) i ≡ Some (right_node rules (suc i))
+  root_at i rule at = get-all_right_nodes rules i (slice_get_within rules i rule at)
 
   module _ (productive : IsEachProductive g) (full : OfNone (HoldsNull g) rules) where
     way : (i : ℕ) (rule : List ℕ × Expression) → slice_get rules i ≡ Some rule → HoldsItself g rule.0 ↔ Leads graph (right_node rules (suc i)) (right_node rules (suc i))
     way i rule at = endless_is g sizes allows size_is full rule.0 (suc i) (symbol_own rules i rule spec at) (productive rule.0 rule.1 (in_of_get rules i rule at))
 
     -- the first root that leads to itself is that of the first rule that holds itself
-    pub first_endless : (place : ℕ) (rule : List ℕ × Expression) → IsFirstRound graph (right_nodes_from 0 rules) place → slice_get rules place ≡ Some rule → IsFirst (IsEndless g) rules rule.0
+    pub first_endless : (place : ℕ) (rule : List ℕ × Expression) → IsFirstRound graph (all_right_nodes rules) place → slice_get rules place ≡ Some rule → IsFirst (IsEndless g) rules rule.0
     first_endless place rule found at =
         let root : found.root ≡ right_node rules (suc place) = same_Some found.root (right_node rules (suc place)) (sym found.at ∙ root_at place rule at) in
         first_at (IsEndless g) rules place rule at ((way place rule at).1 (subst (λ (r : ℕ). Leads graph r r) root found.leads))
         (λ j other less at_j holds. found.before j (right_node rules (suc j)) less (root_at j other at_j) ((way j other at_j).0 holds))
 
-    pub none_endless : IsNoRound graph (right_nodes_from 0 rules) → OfNone (IsEndless g) rules
+    pub none_endless : IsNoRound graph (all_right_nodes rules) → OfNone (IsEndless g) rules
     none_endless none name right there holds =
         let found = get_of_in rules (name, right) there in
         none found.0 (right_node rules (suc found.0)) (root_at found.0 (name, right) found.1) ((way found.0 (name, right) found.1).0 holds)
 
     -- then the grammar passes
-    pub passes : name_without_rule rules ≡ None → IsNoRound graph (right_nodes_from 0 rules) → IsWellFounded g
+    pub passes : name_without_rule rules ≡ None → IsNoRound graph (all_right_nodes rules) → IsWellFounded g
     passes named none = record {
       named = without_rule rules named;
       no_cycles = allows;
@@ -353,7 +351,7 @@ module _ (rules : Rules) (universe : Universe) (table : List (Option ℕ)) (allo
       finite = none_endless none;
     }
 
-    pub ranked : (counts : List ℕ) → IsNoRound graph (right_nodes_from 0 rules) → AreCounts graph counts → AreRanks g counts
+    pub ranked : (counts : List ℕ) → IsNoRound graph (all_right_nodes rules) → AreCounts graph counts → AreRanks g counts
     ranked counts none counted = are_ranks g sizes allows size_is productive (none_endless none) full counts counted
 
   least_when : (e : Expression) (size : Option ℕ) → IsSize g e size → IsLeast g e (unwrap_or size no_least)
@@ -385,10 +383,10 @@ module _ (rules : Rules) (universe : Universe) (table : List (Option ℕ)) (allo
   pub position_within : (place : ℕ) → position is_none table ≡ Some place → place < length rules
   position_within place found = omega (arith, slice_get_within table place None (position_some table place found).0, sized.for_each)
 
-  pub round_within : (place : ℕ) → IsFirstRound graph (right_nodes_from 0 rules) place → place < length rules
-  round_within place found = omega (arith, slice_get_within (right_nodes_from 0 rules) place found.root found.at, length-right_nodes 0 rules)
+  pub round_within : (place : ℕ) → IsFirstRound graph (all_right_nodes rules) place → place < length rules
+  round_within place found = omega (arith, slice_get_within (all_right_nodes rules) place found.root found.at, length-all_right_nodes rules)
 
-  pub endless_said : (productive : position is_none table ≡ None) (full : OfNone (HoldsNull g) rules) (place : ℕ) (name : List ℕ) (n : ℕ) (entry : Option ℕ) → IsFirstRound graph (right_nodes_from 0 rules) place
+  pub endless_said : (productive : position is_none table ≡ None) (full : OfNone (HoldsNull g) rules) (place : ℕ) (name : List ℕ) (n : ℕ) (entry : Option ℕ) → IsFirstRound graph (all_right_nodes rules) place
       → name ≡ rule_name rules (place + 1) → slice_get table place ≡ Some entry → n ≡ unwrap_or entry no_least
       → (given : Option (List ℕ)) → undefined_name rules given ≡ None → IsCulprit g given (Endless name n)
   endless_said productive full place name n entry found is there size given named =
@@ -411,7 +409,7 @@ module _ (rules : Rules) (universe : Universe) (table : List (Option ℕ)) (allo
       (named, allows, subst (IsFirst (HasNoStructure g) rules) same (first_unproductive place rule.0 found rule.1))
 
   -- the grammar with its tables passes
-  pub is_checked : position is_none table ≡ None → OfNone (HoldsNull g) rules → name_without_rule rules ≡ None → IsNoRound graph (right_nodes_from 0 rules) → (start : Option ℕ) (counts : List ℕ)
+  pub is_checked : position is_none table ≡ None → OfNone (HoldsNull g) rules → name_without_rule rules ≡ None → IsNoRound graph (all_right_nodes rules) → (start : Option ℕ) (counts : List ℕ)
       → IfSome start (λ number. (1 ≤ number) × (number ≤ length rules)) → AreCounts graph counts
       → IsChecked (record { rules = rules; universe = universe; start = start; leasts = leasts_of rules table; ranks = counts })
   is_checked productive full named none start counts started counted = record {
@@ -423,7 +421,7 @@ module _ (rules : Rules) (universe : Universe) (table : List (Option ℕ)) (allo
   }
 
 -- each root is a node
-pub roots_within : (rules : Rules) (roots : List ℕ) → roots ≡ right_nodes_from 0 rules → All (λ root. root < length (all_nodes rules)) roots
+pub roots_within : (rules : Rules) (roots : List ℕ) → roots ≡ all_right_nodes rules → All (λ root. root < length (all_nodes rules)) roots
 roots_within rules roots is k d within =
     table_right_within rules roots is (suc k) (get_or roots k d) (omega arith) (omega (arith, within, length-right_table rules roots is))
     (get_or_any roots k d (get_or roots k d) within ∙ ap (λ (j : ℕ). get_or roots j (get_or roots k d)) (number k))

@@ -1,6 +1,5 @@
 pub mod SetsLaws
 pub mod NodesLaws
-pub mod NodeSteps
 pub mod CyclesLaws
 pub mod ManyLaws
 pub mod ContainerSteps

@@ -10,12 +10,12 @@ use Rattle.spec_syntax.proofs.RulesLemmas.{symbol-within, some_right}
 use Rattle.well_founded.specs.declared.node.Node.{Node}
 use Rattle.well_founded.specs.declared.node.NodeKind.TheVariants as told
 use Rattle.well_founded.specs.Names.{name_without_rule, undefined_name}
-use Rattle.spec_syntax.specs.Nodes.{node_at, right_node, children_of, arguments_of, card_of, card_at, name_of, name_at, children_at, arguments_at}
-use Rattle.spec_syntax.proofs.NodesLemmas.{child_node, child_is, children_few, right_node_is}
+use Rattle.spec_syntax.specs.Nodes.{all_right_nodes, node_at, right_node, children_of, arguments_of, card_of, card_at, name_of, name_at, children_at, arguments_at}
+use Rattle.spec_syntax.proofs.NodesLemmas.{length-all_right_nodes, read-all_right_nodes, child_node, child_is, children_few, right_node_is}
 use Rattle.well_founded.specs.NodeKinds.{kind_of, is_container}
-use Rattle.well_founded.specs.NodeTable.{node_kind, node_children, node_rule, node_card, node_of, nodes_from, nodes_of, right_nodes_from}
+use Rattle.lists.proofs.Indexed.{length-made, get-made}
+use Rattle.well_founded.specs.NodeTable.{node_kind, node_children, node_rule, node_card, node_of, nodes_from, nodes_of}
 use Rattle.well_founded.proofs.NodesLaws.{name_node_rule}
-use Rattle.well_founded.proofs.NodeSteps.{length-nodes_from}
 
 kind-node_of : (rules : Rules) (n : ℕ) (e : Expression) → node_kind (node_of rules n e) ≡ kind_of e
 kind-node_of rules n expr.Epsilon = refl
@@ -32,11 +32,6 @@ children-node_of rules n (expr.Name name) = refl
 children-node_of rules n (expr.Union es) = refl
 children-node_of rules n (expr.Prod es) = refl
 children-node_of rules n (expr.Many kind element card) = refl
-
-get-nodes_from : (rules : Rules) (n i m : ℕ) (es : List Expression) → n + i ≡ m → slice_get (nodes_from rules n es) i ≡ option_map (node_of rules m) (slice_get es i)
-get-nodes_from rules n i m [] number = refl
-get-nodes_from rules n zero m (e ∷ es) number = let same : n ≡ m = omega arith in ap (λ (j : ℕ). Some (node_of rules j e)) same
-get-nodes_from rules n (suc i) m (e ∷ es) number = get-nodes_from rules (suc n) i m es (omega arith)
 
 -- a node of the table, with its expression
 pub record TableNode (rules : Rules) (n : ℕ) (x : Node) : Type 0 where
@@ -73,7 +68,7 @@ all_named rules h = by (name_without_rule rules) refl h
 
 module _ (rules : Rules) (table : List Node) (is : table ≡ nodes_of rules) where
   pub length-table : length table ≡ length (all_nodes rules)
-  length-table = ap length is ∙ length-nodes_from rules 0 (all_nodes rules)
+  length-table = ap length is ∙ length-made (λ (node : ℕ × Expression). node_of rules node.0 node.1) 0 (all_nodes rules)
 
   pub table_node : (n : ℕ) (x : Node) → n < length (all_nodes rules) → x ≡ get_or table n x → TableNode rules n x
   table_node n x within read = by (node_at rules n) refl
@@ -82,7 +77,7 @@ module _ (rules : Rules) (table : List Node) (is : table ≡ nodes_of rules) whe
       got = ap (λ xs. slice_get xs n) (sym is) ∙ slice_get_read table (length table) n x refl (omega (arith, length-table)) read
 
       mapped : slice_get (nodes_of rules) n ≡ option_map (node_of rules n) (node_at rules n)
-      mapped = get-nodes_from rules 0 n n (all_nodes rules) (omega arith)
+      mapped = get-made (λ (node : ℕ × Expression). node_of rules node.0 node.1) 0 n n (all_nodes rules) (omega arith)
 
       by : (found : Option Expression) → node_at rules n ≡ found → TableNode rules n x
       by None at =
@@ -151,35 +146,12 @@ named_within rules n number found = by (name_at rules n) found
 
 -- ---- the table of right sides
 
-pub get-right_nodes : (n i : ℕ) (rules : Rules) → i < length rules → slice_get (right_nodes_from n rules) i ≡ Some (n + length (all_nodes (take i rules)))
-get-right_nodes n i [] within = absurd (omega arith)
-get-right_nodes n zero (rule ∷ rules) within = ap Some (same n)
-  where
-    same : (m : ℕ) → m ≡ m + 0
-    same m = omega arith
-get-right_nodes n (suc i) (rule ∷ rules) within =
-    get-right_nodes (n + nodes rule.1) i rules (omega arith)
-    ∙ ap Some (omega (arith, length-append (preorder rule.1) (all_nodes (take i rules))))
-
-pub length-right_nodes : (n : ℕ) (rules : Rules) → length (right_nodes_from n rules) ≡ length rules
-length-right_nodes n [] = refl
-length-right_nodes n (rule ∷ rules) = ap suc (length-right_nodes (n + nodes rule.1) rules)
-
-module _ (rules : Rules) (table : List ℕ) (is : table ≡ right_nodes_from 0 rules) where
+module _ (rules : Rules) (table : List ℕ) (is : table ≡ all_right_nodes rules) where
   pub length-right_table : length table ≡ length rules
-  length-right_table = ap length is ∙ length-right_nodes 0 rules
-
-  right_read : (i x : ℕ) → i < length rules → x ≡ get_or table i x → Some (0 + length (all_nodes (take i rules))) ≡ Some x
-  right_read i x within read =
-      sym (get-right_nodes 0 i rules within) ∙ ap (λ xs. slice_get xs i) (sym is) ∙ slice_get_read table (length table) i x refl (omega (arith, length-right_table)) read
+  length-right_table = ap length is ∙ length-all_right_nodes rules
 
   pub table_right : (sym x : ℕ) → 1 ≤ sym → sym ≤ length rules → x ≡ get_or table (sym - 1) x → x ≡ right_node rules sym
-  table_right zero x low high read = absurd (omega arith)
-  table_right (suc i) x low high read =
-      let place : suc i - 1 ≡ i = omega arith in
-      let there : Some (0 + length (all_nodes (take i rules))) ≡ Some x = right_read i x (omega arith) (read ∙ ap (λ (j : ℕ). get_or table j x) place) in
-      let same : 0 + length (all_nodes (take i rules)) ≡ x = cc in
-      omega arith
+  table_right number x low high read = read ∙ ap (λ (nodes : List ℕ). get_or nodes (number - 1) x) is ∙ read-all_right_nodes rules number x low high
 
   pub table_right_side : (sym x : ℕ) → 1 ≤ sym → sym ≤ length rules → x ≡ get_or table (sym - 1) x → node_at rules x ≡ right_side rules sym
   table_right_side number x low high read =

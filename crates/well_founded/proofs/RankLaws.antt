@@ -9,13 +9,14 @@ use Rattle.spec_syntax.specs.Expression.{Expression}
 use Rattle.spec_syntax.specs.Rules.{Rules, is_same_name, symbol, all_nodes}
 use Rattle.spec_syntax.specs.Grammar.{Grammar}
 use Rattle.lists.specs.Enumeration.{IsIn}
+use Rattle.lists.proofs.Indexed.{length-made}
 use Rattle.spec_syntax.proofs.NodeRanges.{child_within}
 use Rattle.well_founded.specs.Least.{IsSize, least_with, size_of_name}
 use Rattle.well_founded.specs.WellFounded.{may_hold_cycles, HoldsCycle, HoldsNull, OfNone, IsEndless, IsEachProductive, IsWellFounded}
 use Rattle.spec_syntax.specs.Nodes.{node_at, right_node, below}
 use Rattle.well_founded.specs.Rank.{CanFill, AreRanks}
 use Rattle.graphs.specs.Graph.{Graph, next, LeadsBy, Leads, IsGraph, count_true, IsCount, AreCounts}
-use Rattle.well_founded.specs.SameSize.{followers_from, same_size_graph}
+use Rattle.well_founded.specs.SameSize.{followers, same_size_graph}
 use Rattle.well_founded.proofs.CyclesLaws.{node_allowed}
 use Rattle.lists.proofs.Places.{in_of_get}
 use Rattle.graphs.proofs.Reached.{step_leads, leads_trans}
@@ -26,17 +27,13 @@ use Rattle.spec_syntax.proofs.RulesLemmas.{found_rule, own_name}
 use Rattle.well_founded.proofs.EndlessLaws.{node_full, leads_holds}
 use Rattle.well_founded.proofs.LeastRounds.{sizes_exist}
 
-followers-length : (rules : Rules) (sizes : Expression → Option ℕ) (n : ℕ) (es : List Expression) → length (followers_from rules sizes n es) ≡ length es
-followers-length rules sizes n [] = refl
-followers-length rules sizes n (e ∷ es) = ap suc (followers-length rules sizes (suc n) es)
-
 module _ (g : Grammar) (sizes : Expression → Option ℕ) where
   abbrev graph : Graph
   graph = same_size_graph g.rules sizes
 
   -- the graph has the nodes of the rules
   pub graph-length : length graph ≡ length (all_nodes g.rules)
-  graph-length = followers-length g.rules sizes 0 (all_nodes g.rules)
+  graph-length = length-made (λ (node : ℕ × Expression). followers g.rules sizes node.0 node.1) 0 (all_nodes g.rules)
 
   pub is_graph : IsGraph graph
   is_graph i j step =

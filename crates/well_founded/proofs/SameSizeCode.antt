@@ -9,7 +9,7 @@ use Rattle.spec_syntax.specs.Expression.{Expression, preorder, nodes, expression
 use Rattle.spec_syntax.specs.Rules.{Rules, symbol, right_side, all_nodes}
 use Rattle.graphs.specs.Graph.{Graph}
 use Rattle.spec_syntax.specs.Nodes.{right_node}
-use Rattle.well_founded.specs.NodeTable.{right_nodes_from}
+use Rattle.spec_syntax.specs.Nodes.{all_right_nodes}
 use Rattle.well_founded.specs.SameSize.{is_null, alone_from, is_told_inside, picked, followers, followers_from}
 use Rattle.spec_syntax.proofs.NodeSteps.{expressions_step}
 use Rattle.spec_syntax.proofs.ExpressionLemmas.{list_of}
@@ -70,28 +70,7 @@ module _ (sizes : Expression → Option ℕ) where
       ∙ sym (append_assoc old (flag ∷ []) (rest later))
       ∙ ap (λ flags. flags ++ rest later) (sym grown)
 
--- ---- the rules' right sides
-
-root_from : (k : ℕ) (rules : Rules) (i d : ℕ) → i < length rules → get_or (right_nodes_from k rules) i d ≡ k + length (all_nodes (take i rules))
-root_from k [] i d within = absurd (omega arith)
-root_from k (rule ∷ rules) zero d within = omega arith
-root_from k (rule ∷ rules) (suc i) d within =
-    omega (arith, root_from (k + nodes rule.1) rules i d (omega arith), length-append (preorder rule.1) (all_nodes (take i rules)))
-
-pub length_roots : (k : ℕ) (rules : Rules) → length (right_nodes_from k rules) ≡ length rules
-length_roots k [] = refl
-length_roots k (rule ∷ rules) = ap suc (length_roots (k + nodes rule.1) rules)
-
-pub root_is : (rules : Rules) (n d : ℕ) → 1 ≤ n → n ≤ length rules → get_or (right_nodes_from 0 rules) (n - 1) d ≡ right_node rules n
-root_is rules zero d low high = absurd (omega arith)
-root_is rules (suc i) d low high =
-    ap (λ (k : ℕ). get_or (right_nodes_from 0 rules) k d) less ∙ root_from 0 rules i d (omega arith) ∙ start
-  where
-    less : suc i - 1 ≡ i
-    less = omega arith
-
-    start : 0 + length (all_nodes (take i rules)) ≡ length (all_nodes (take i rules))
-    start = omega arith
+-- ---- the followers of a name
 
 module _ (rules : Rules) (sizes : Expression → Option ℕ) where
   -- a name without a rule is followed by nothing
@@ -112,41 +91,3 @@ module _ (rules : Rules) (sizes : Expression → Option ℕ) where
   pub is_not_followed : (name : List ℕ) (n : ℕ) (right : Expression) → symbol rules name ≡ Some n → right_side rules n ≡ Some right → is_told_inside right ≡ false
       → followers rules sizes 0 (expr.Name name) ≡ []
   is_not_followed name n right numbered sided told = with_rule name n right numbered sided ∙ ap (λ flag. picked (flag ∷ []) (right_node rules n ∷ [])) told
-
-  -- ---- the graph
-
-  pub followers_from-append : (n : ℕ) (xs ys : List Expression) → followers_from rules sizes n (xs ++ ys) ≡ followers_from rules sizes n xs ++ followers_from rules sizes (n + length xs) ys
-  followers_from-append n [] ys = ap (λ (m : ℕ). followers_from rules sizes m ys) (number n)
-    where
-      number : (m : ℕ) → m ≡ m + 0
-      number m = omega arith
-  followers_from-append n (x ∷ xs) ys =
-      ap (λ graph. followers rules sizes n x ∷ graph)
-      (followers_from-append (suc n) xs ys ∙ ap (λ (m : ℕ). followers_from rules sizes (suc n) xs ++ followers_from rules sizes m ys) (number n (length xs)))
-    where
-      number : (m k : ℕ) → suc m + k ≡ m + suc k
-      number m k = omega arith
-
-  pub length-followers_from : (n : ℕ) (es : List Expression) → length (followers_from rules sizes n es) ≡ length es
-  length-followers_from n [] = refl
-  length-followers_from n (e ∷ es) = ap suc (length-followers_from (suc n) es)
-
-  -- how long a graph is that grew by the followers of some expressions
-  pub grown_rows : (old new : Graph) (xs : List Expression) → new ≡ old ++ followers_from rules sizes (length old) xs → length new ≡ length old + length xs
-  grown_rows old new xs grown = ap length grown ∙ length-append old (followers_from rules sizes (length old) xs) ∙ ap (λ (k : ℕ). length old + k) (length-followers_from (length old) xs)
-
-  -- a graph that grew by the followers of some expressions, and then by those of others
-  pub rows_twice : (old middle new : Graph) (xs ys : List Expression) → middle ≡ old ++ followers_from rules sizes (length old) xs
-      → new ≡ middle ++ followers_from rules sizes (length middle) ys → new ≡ old ++ followers_from rules sizes (length old) (xs ++ ys)
-  rows_twice old middle new xs ys first second =
-      second
-      ∙ ap (λ rows. rows ++ followers_from rules sizes (length middle) ys) first
-      ∙ ap (λ (m : ℕ). (old ++ followers_from rules sizes (length old) xs) ++ followers_from rules sizes m ys) (grown_rows old middle xs first)
-      ∙ append_assoc old (followers_from rules sizes (length old) xs) (followers_from rules sizes (length old + length xs) ys)
-      ∙ ap (λ rows. old ++ rows) (sym (followers_from-append (length old) xs ys))
-
-  -- what is still to come of a graph, before and after the followers of some expressions
-  pub rows_step : (old middle : Graph) (xs ys all : List Expression) → middle ≡ old ++ followers_from rules sizes (length old) xs → all ≡ xs ++ ys
-      → old ++ followers_from rules sizes (length old) all ≡ middle ++ followers_from rules sizes (length middle) ys
-  rows_step old middle xs ys all first split =
-      ap (λ es. old ++ followers_from rules sizes (length old) es) split ∙ sym (rows_twice old middle (middle ++ followers_from rules sizes (length middle) ys) xs ys first refl)

@@ -34,7 +34,9 @@ inner rules (expr.Name name) (suc place) = None
 inner rules (expr.Union es) place = slice_get (expression_list es) place
 inner rules (expr.Prod es) place = slice_get (expression_list es) place
 inner rules (expr.Many kind element card) zero = Some element
-inner rules e place = None
+inner rules (expr.Many kind element card) (suc place) = None
+inner rules expr.Epsilon place = None
+inner rules expr.Atom place = None
 
 argument_is : (es : Expressions) (place : ℕ) → argument es (suc place) ≡ slice_get (expression_list es) place
 argument_is no_expressions place = refl

@@ -1,15 +1,16 @@
 -- The steps of the graph of one size: from a node to a place below it that is told to be filled.
 use Rattle.std.proofs.Common.{◌≡◌, inl, inr, ℕ, zero, suc, ◌+◌, Bool, true, false, List, [], ◌∷◌, refl, sym, ap, ◌∙◌, subst, arith, slice_get, unwrap_or, Option, Some, None}
-use Rattle.std.specs.Option.{option_map_or, option_and_then}
+use Rattle.std.specs.Option.{option_map, option_map_or, option_and_then}
 use Rattle.std.proofs.lemmas.Option.{same_Some}
 use Rattle.spec_syntax.specs.Expression as expr
 use Rattle.spec_syntax.specs.Expression.{Expression, Expressions, no_expressions, more_expressions, expression_list, nodes}
 use Rattle.spec_syntax.specs.Rules.{Rules, symbol, right_side, all_nodes}
 use Rattle.lists.specs.Enumeration.{IsIn}
+use Rattle.lists.proofs.Indexed.{get-made}
 use Rattle.spec_syntax.specs.Nodes.{node_at, right_node, places_from, children_of, below, arguments_of}
 use Rattle.spec_syntax.proofs.NodesLemmas.{node_stands, stands_at, child_stands, right_node_is}
 use Rattle.graphs.specs.Graph.{Graph, next}
-use Rattle.well_founded.specs.SameSize.{fillable, picked, followers, followers_from, same_size_graph}
+use Rattle.well_founded.specs.SameSize.{fillable, picked, followers, same_size_graph}
 use Rattle.spec_syntax.proofs.RulesLemmas.{symbol_right}
 use Rattle.well_founded.proofs.SameSizeLaws.{inner}
 
@@ -89,28 +90,17 @@ inner_below rules n (expr.Many kind element card) (suc place) f at = absurd (cc)
 -- ---- steps
 
 module _ (rules : Rules) (sizes : Expression → Option ℕ) where
-  followers_at : (k : ℕ) (es : List Expression) (i n : ℕ) (e : Expression) → k + i ≡ n → slice_get es i ≡ Some e
-      → slice_get (followers_from rules sizes k es) i ≡ Some (followers rules sizes n e)
-  followers_at k [] i n e number at = absurd (cc)
-  followers_at k (f ∷ es) zero n e number at =
-      let same : f ≡ e = cc in
-      let first : k ≡ n = omega arith in
-      λ i. Some (followers rules sizes (first i) (same i))
-  followers_at k (f ∷ es) (suc i) n e number at = followers_at (suc k) es i n e (omega arith) at
-
-  followers_past : (k : ℕ) (es : List Expression) (i : ℕ) → slice_get es i ≡ None → slice_get (followers_from rules sizes k es) i ≡ None
-  followers_past k [] i none = refl
-  followers_past k (f ∷ es) zero none = absurd (cc)
-  followers_past k (f ∷ es) (suc i) none = followers_past (suc k) es i none
-
   abbrev pub graph : Graph
   graph = same_size_graph rules sizes
 
+  next_of : (n : ℕ) → next graph n ≡ unwrap_or (option_map (followers rules sizes n) (node_at rules n)) []
+  next_of n = ap (λ (o : Option (List ℕ)). unwrap_or o []) (get-made (λ (node : ℕ × Expression). followers rules sizes node.0 node.1) 0 n n (all_nodes rules) (omega arith))
+
   next_is : (n : ℕ) (e : Expression) → node_at rules n ≡ Some e → next graph n ≡ followers rules sizes n e
-  next_is n e at = ap (λ (o : Option (List ℕ)). unwrap_or o []) (followers_at 0 (all_nodes rules) n n e (omega arith) at)
+  next_is n e at = next_of n ∙ ap (λ (o : Option Expression). unwrap_or (option_map (followers rules sizes n) o) []) at
 
   next_none : (n : ℕ) → node_at rules n ≡ None → next graph n ≡ []
-  next_none n none = ap (λ (o : Option (List ℕ)). unwrap_or o []) (followers_past 0 (all_nodes rules) n none)
+  next_none n none = next_of n ∙ ap (λ (o : Option Expression). unwrap_or (option_map (followers rules sizes n) o) []) none
 
   -- from one node to the one at a place below it that is told to be filled
   pub record IsStep (n m : ℕ) : Type 0 where

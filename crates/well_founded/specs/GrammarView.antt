@@ -2,7 +2,8 @@
 use Rattle.std.specs.Prelude.{◌≡◌}
 use Rattle.well_founded.specs.declared.grammar.Grammar.TheInside.{Inside}
 use Rattle.well_founded.specs.Checked.{Checked, IsChecked}
-use Rattle.well_founded.specs.NodeTable.{nodes_of, right_nodes_from}
+use Rattle.spec_syntax.specs.Nodes.{all_right_nodes}
+use Rattle.well_founded.specs.NodeTable.{nodes_of}
 
 abbrev pub checked_of : Inside → Checked
 checked_of a = record { rules = a.spec; universe = a.universe; start = a.start; leasts = a.leasts.items; ranks = a.ranks.items }
@@ -11,4 +12,4 @@ checked_of a = record { rules = a.spec; universe = a.universe; start = a.start; 
 pub record IsKept (a : Inside) : Type 0 where
   pub checked : IsChecked (checked_of a)
   pub nodes : a.nodes.items ≡ nodes_of a.spec
-  pub right_nodes : a.right_nodes.items ≡ right_nodes_from 0 a.spec
+  pub right_nodes : a.right_nodes.items ≡ all_right_nodes a.spec

@@ -1,7 +1,7 @@
 -- Which nodes' structures can stand directly inside a node's of the same size, as told by least sizes.
-use Rattle.std.specs.Prelude.{ℕ, suc, Bool, true, false, not, ◌&&◌, ◌||◌, nat_eq, List, [], ◌∷◌, map, Option, is_some}
+use Rattle.std.specs.Prelude.{ℕ, Bool, true, false, not, ◌&&◌, ◌||◌, nat_eq, List, [], ◌∷◌, map, Option, is_some}
 use Rattle.std.specs.Option.{option_map_or, option_and_then}
-use Rattle.std.specs.List.{list_all}
+use Rattle.std.specs.List.{list_all, enumerate_from}
 use Rattle.spec_syntax.specs.Card.{admits}
 use Rattle.spec_syntax.specs.Expression as expr
 use Rattle.spec_syntax.specs.Expression.{Expression, Expressions, no_expressions, more_expressions, expression_list}
@@ -27,11 +27,12 @@ is_told_inside right = not (is_epsilon right || is_atom right)
 -- for each node below the expression: can a structure of it stand inside one of the expression's of the same size. In a
 -- container it can where it is the only component, since each one has an atom
 abbrev pub fillable : Rules → (Expression → Option ℕ) → Expression → List Bool
+fillable rules sizes expr.Epsilon = []
+fillable rules sizes expr.Atom = []
 fillable rules sizes (expr.Name name) = option_map_or (λ right. is_told_inside right ∷ []) (option_and_then (right_side rules) (symbol rules name)) []
 fillable rules sizes (expr.Union es) = map (λ e. is_some (sizes e)) (expression_list es)
 fillable rules sizes (expr.Prod es) = alone_from sizes true es
 fillable rules sizes (expr.Many kind element card) = (admits card 1 && is_some (sizes element)) ∷ []
-fillable rules sizes e = []
 
 abbrev pub picked : List Bool → List ℕ → List ℕ
 picked [] nodes = []
@@ -43,9 +44,9 @@ picked (false ∷ flags) (node ∷ nodes) = picked flags nodes
 abbrev pub followers : Rules → (Expression → Option ℕ) → ℕ → Expression → List ℕ
 followers rules sizes n e = picked (fillable rules sizes e) (below rules n e)
 
+-- the same for each of these expressions, the first of which is node number n
 abbrev pub followers_from : Rules → (Expression → Option ℕ) → ℕ → List Expression → Graph
-followers_from rules sizes n [] = []
-followers_from rules sizes n (e ∷ es) = followers rules sizes n e ∷ followers_from rules sizes (suc n) es
+followers_from rules sizes n es = map (λ node. followers rules sizes node.0 node.1) (enumerate_from n es)
 
 -- for each node those whose structures can stand directly inside it of the same size
 abbrev pub same_size_graph : Rules → (Expression → Option ℕ) → Graph

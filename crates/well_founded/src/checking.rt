@@ -4,7 +4,6 @@ ghost use Rattle.std.specs.Option.{option_copied, option_and_then};
 ghost use Rattle.spec_syntax.specs.Rules.{symbol, is_spec, all_nodes, rule_name};
 ghost use Rattle.well_founded.specs.Names.{undefined_name, name_without_rule};
 ghost use Rattle.well_founded.specs.Least.{AreSizes, IsSmall, least_with, size_of_name};
-ghost use Rattle.well_founded.specs.NodeTable.{right_nodes_from};
 ghost use Rattle.well_founded.specs.SameSize.{same_size_graph};
 ghost use Rattle.graphs.specs.Graph.{IsGraph};
 ghost use Rattle.well_founded.specs.WellFounded.{HoldsCycle, HoldsNull, OfNone, IsWellFounded, IsCulprit, Checks};
@@ -93,8 +92,8 @@ fn check_sized(
     ensures refused { IfErr result (λ refused. refused ≢ Refused.Memory → (given : Option (List ℕ)) → undefined_name spec.now given ≡ None
         → IsCulprit (record { rules = spec.now; universe = universe }) given refused) }
 {
-    let graph = same_size_graph(alloc, spec, sizes)?;
     let roots = right_nodes(alloc, spec)?;
+    let graph = same_size_graph(alloc, spec, sizes, roots.as_slice())?;
     if let Some(place) = first_round(alloc, &graph, &roots)? {
         let name = name_of(alloc, spec, place as u32 + 1)?;
         return Err(Refused::Endless(name, sizes[place].unwrap_or(NO_LEAST)));

@@ -4,9 +4,9 @@ ghost use Rattle.spec_syntax.specs.Expression.{Expression};
 ghost use Rattle.spec_syntax.specs.Rules.{symbol, right_side, all_nodes};
 ghost use Rattle.well_founded.specs.declared.node.NodeKind.TheVariants.{Rule};
 ghost use Rattle.well_founded.specs.Sizes.{IsLeast};
-ghost use Rattle.spec_syntax.specs.Nodes.{node_at, right_node, card_at, name_at, children_at, arguments_at};
+ghost use Rattle.spec_syntax.specs.Nodes.{node_at, right_node, all_right_nodes, card_at, name_at, children_at, arguments_at};
 ghost use Rattle.well_founded.specs.NodeKinds.{kind_of, is_container};
-ghost use Rattle.well_founded.specs.NodeTable.{nodes_of, right_nodes_from};
+ghost use Rattle.well_founded.specs.NodeTable.{nodes_of};
 ghost use Rattle.well_founded.specs.Rank.{IsRank, FallsBySizes};
 ghost use Rattle.well_founded.specs.Checked.{IsChecked, grammar};
 
@@ -171,7 +171,7 @@ pub(crate) fn checked(
 ) -> Grammar
     requires checked { IsChecked (record { rules = spec; universe = universe; start = start; leasts = leasts.items; ranks = ranks.items }) }
     requires nodes { nodes.items ≡ nodes_of spec }
-    requires right_nodes { right_nodes.items ≡ right_nodes_from 0 spec }
+    requires right_nodes { right_nodes.items ≡ all_right_nodes spec }
     ensures { result ≡ record { rules = spec; universe = universe; start = start; leasts = leasts.items; ranks = ranks.items } }
 {
     Grammar {

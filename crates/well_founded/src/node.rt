@@ -1,8 +1,8 @@
 //! The nodes of a grammar: the expressions in its rules, numbered from 0 in preorder, rule by rule.
 ghost use Rattle.std.specs.Prelude.{◌≡◌, [], ◌∷◌, ◌+◌, ◌++◌, ◌≤◌, ◌<◌, Some, length, slice_get, IfOk, OnOk};
 ghost use Rattle.spec_syntax.specs.Expression.{nodes, nodes_of_all, preorder, preorder_of_all, expressions_of};
-ghost use Rattle.spec_syntax.specs.Nodes.{places_from};
-ghost use Rattle.well_founded.specs.NodeTable.{node_kind, node_children, node_rule, node_card, nodes_from, nodes_of, right_nodes_from};
+ghost use Rattle.spec_syntax.specs.Nodes.{places_from, all_right_nodes};
+ghost use Rattle.well_founded.specs.NodeTable.{node_kind, node_children, node_rule, node_card, nodes_from, nodes_of};
 
 use seq::Seq;
 use spec_syntax::{Card, Expr, ExprShape, Kind, Spec};
@@ -85,7 +85,7 @@ impl Node {
     {
         match self {
             Node::Rule(sym) => *sym,
-            _ => 0,
+            Node::Epsilon | Node::Atom | Node::Union(_) | Node::Prod(_) | Node::Many(_, _, _) => 0,
         }
     }
 
@@ -95,7 +95,9 @@ impl Node {
     {
         match self {
             Node::Many(_, _, card) => *card,
-            _ => Card { low: 0, high: None },
+            Node::Epsilon | Node::Atom | Node::Rule(_) | Node::Union(_) | Node::Prod(_) => {
+                Card { low: 0, high: None }
+            }
         }
     }
 }
@@ -217,7 +219,7 @@ pub(crate) fn nodes_of_rules(alloc: Global, spec: &Spec) -> Result<Vec<Node>, Al
 
 /// For each rule the node of its right side.
 pub(crate) fn right_nodes(alloc: Global, spec: &Spec) -> Result<Vec<u32>, AllocError>
-    ensures { IfOk result (λ table. table.items ≡ right_nodes_from 0 spec.now) }
+    ensures { IfOk result (λ table. table.items ≡ all_right_nodes spec.now) }
 {
     let mut table = Vec::new(alloc);
     let mut next = 0;

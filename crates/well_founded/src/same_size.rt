@@ -3,11 +3,11 @@ ghost use Rattle.std.specs.Prelude.{◌≡◌, ◌&&◌, [], ◌∷◌, ◌+◌,
 ghost use Rattle.std.specs.List.{list_all};
 ghost use Rattle.spec_syntax.specs.Expression.{Name as NameOf, is_well_formed, nodes, nodes_of_all, preorder, preorder_of_all, expressions_of};
 ghost use Rattle.well_founded.specs.Least.{IsSmall, least_with, size_of_name};
-ghost use Rattle.well_founded.specs.NodeTable.{right_nodes_from};
+ghost use Rattle.spec_syntax.specs.Nodes.{all_right_nodes};
 ghost use Rattle.well_founded.specs.SameSize.{is_null, alone_from, is_told_inside, picked, followers, followers_from, same_size_graph};
 
 use crate::least::least_in;
-use crate::node::{places, right_nodes};
+use crate::node::places;
 use seq::Seq;
 use spec_syntax::{Card, Expr, ExprShape, Name, Spec};
 use std::alloc::{AllocError, Global};
@@ -44,7 +44,7 @@ fn name_followers(
     roots: &[u32],
     name: &Name,
 ) -> Result<Seq<u32>, AllocError>
-    requires { roots.now ≡ right_nodes_from 0 spec.now }
+    requires { roots.now ≡ all_right_nodes spec.now }
     ensures { IfOk result (λ row. row ≡ followers spec.now (least_with (size_of_name spec.now sizes.now)) 0 (NameOf name.now)) }
 {
     let mut row = Seq::new(alloc);
@@ -148,7 +148,7 @@ fn followers(
 ) -> Result<Seq<u32>, AllocError>
     requires for_each { length sizes.now ≡ length spec.now }
     requires small { All IsSmall sizes.now }
-    requires roots { roots.now ≡ right_nodes_from 0 spec.now }
+    requires roots { roots.now ≡ all_right_nodes spec.now }
     requires room { number + nodes expr.now ≤ 128 }
     ensures { IfOk result (λ row. row ≡ followers spec.now (least_with (size_of_name spec.now sizes.now)) number expr.now) }
 {
@@ -184,7 +184,7 @@ fn push_followers(
 ) -> Result<(), AllocError>
     requires for_each { length sizes.now ≡ length spec.now }
     requires small { All IsSmall sizes.now }
-    requires roots { roots.now ≡ right_nodes_from 0 spec.now }
+    requires roots { roots.now ≡ all_right_nodes spec.now }
     requires room { length graph.old.items + nodes expr.now ≤ 128 }
     ensures { OnOk result (graph.new.items ≡ graph.old.items ++ followers_from spec.now (least_with (size_of_name spec.now sizes.now)) (length graph.old.items) (preorder expr.now)) }
 {
@@ -216,7 +216,7 @@ fn push_all_followers(
 ) -> Result<(), AllocError>
     requires for_each { length sizes.now ≡ length spec.now }
     requires small { All IsSmall sizes.now }
-    requires roots { roots.now ≡ right_nodes_from 0 spec.now }
+    requires roots { roots.now ≡ all_right_nodes spec.now }
     requires room { length graph.old.items + nodes_of_all (expressions_of exprs.now) ≤ 128 }
     ensures { OnOk result (graph.new.items ≡ graph.old.items ++ followers_from spec.now (least_with (size_of_name spec.now sizes.now)) (length graph.old.items) (preorder_of_all (expressions_of exprs.now))) }
 {
@@ -226,7 +226,8 @@ fn push_all_followers(
     Ok(())
 }
 
-/// For each node those whose structures can stand directly inside it of the same size, by the least sizes of the rules.
+/// For each node those whose structures can stand directly inside it of the same size, by the least sizes of the rules and
+/// the nodes of their right sides.
 ///
 /// # Errors
 ///
@@ -235,22 +236,16 @@ pub(crate) fn same_size_graph(
     alloc: Global,
     spec: &Spec,
     sizes: &[Option<u32>],
+    roots: &[u32],
 ) -> Result<Vec<Seq<u32>>, AllocError>
     requires for_each { length sizes.now ≡ length spec.now }
     requires small { All IsSmall sizes.now }
+    requires roots { roots.now ≡ all_right_nodes spec.now }
     ensures { IfOk result (λ graph. graph.items ≡ same_size_graph spec.now (least_with (size_of_name spec.now sizes.now))) }
 {
-    let roots = right_nodes(alloc, spec)?;
     let mut graph = Vec::new(alloc);
     for place in 0..spec.rules() {
-        push_followers(
-            alloc,
-            spec,
-            sizes,
-            &roots,
-            spec.right(place + 1),
-            &mut graph,
-        )?;
+        push_followers(alloc, spec, sizes, roots, spec.right(place + 1), &mut graph)?;
     }
     Ok(graph)
 }
@@ -259,6 +254,7 @@ pub(crate) fn same_size_graph(
 mod tests {
     use super::*;
     use crate::least::least_sizes;
+    use crate::node::right_nodes;
     use spec_syntax::Exprs;
     use std::test::Fail;
 
@@ -302,7 +298,8 @@ mod tests {
             },
         )?;
         let sizes = least_sizes(alloc, &spec)?;
-        let graph = same_size_graph(alloc, &spec, &sizes)?;
+        let roots = right_nodes(alloc, &spec)?;
+        let graph = same_size_graph(alloc, &spec, &sizes, roots.as_slice())?;
         let mut rows = Vec::new(alloc);
         for row in &graph {
             rows.extend_from_slice(row.as_slice())?;

@@ -2,7 +2,7 @@ use Rattle.std.proofs.Common.{◌≡◌, ◌≤◌, ◌<◌, ℕ, List, Option, 
 use Rattle.std.proofs.lemmas.Option.{slice_get-get_or}
 use Rattle.spec_syntax.specs.Rules.{Rules, all_nodes}
 use Rattle.well_founded.specs.Least.{least_with, size_of_name}
-use Rattle.well_founded.specs.NodeTable.{right_nodes_from}
+use Rattle.spec_syntax.specs.Nodes.{all_right_nodes}
 use Rattle.well_founded.specs.SameSize.{same_size_graph}
 use Rattle.graphs.specs.Graph.{Graph, IsGraph, AreCounts}
 use Rattle.well_founded.specs.Search.{IsFirstRound, IsNoRound}
@@ -33,8 +33,8 @@ pub overflow_cast-place : goal.overflow_cast-place
 overflow_cast-place c =
     let rules = c.args.spec.now in
     let table = c.args.sizes.now in
-    let found : IsFirstRound (graph_of rules table) (right_nodes_from 0 rules) c.in-Some.place =
-    found_by c.deref.result.now (graph_of rules table) c.deref-2.result.now (right_nodes_from 0 rules) c.in_ok-place.field-0 c.in-Some.place
+    let found : IsFirstRound (graph_of rules table) (all_right_nodes rules) c.in-Some.place =
+    found_by c.deref.result.now (graph_of rules table) c.deref-2.result.now (all_right_nodes rules) c.in_ok-place.field-0 c.in-Some.place
     (c.deref.ensures.value ∙ c.in_ok-graph.ensures) (c.deref-2.ensures.value ∙ c.in_ok-roots.ensures) c.in-Some.is c.in_ok-place.ensures.found in
     let within : c.in-Some.place < length rules = round_within rules c.args.universe table c.requires.no_cycles c.requires.spec c.requires.sizes c.in-Some.place found in
     omega (arith, within, few_rules rules c.requires.spec)
@@ -43,8 +43,8 @@ pub overflow_add-place : goal.overflow_add-place
 overflow_add-place c =
     let rules = c.args.spec.now in
     let table = c.args.sizes.now in
-    let found : IsFirstRound (graph_of rules table) (right_nodes_from 0 rules) c.in-Some.place =
-    found_by c.deref.result.now (graph_of rules table) c.deref-2.result.now (right_nodes_from 0 rules) c.in_ok-place.field-0 c.in-Some.place
+    let found : IsFirstRound (graph_of rules table) (all_right_nodes rules) c.in-Some.place =
+    found_by c.deref.result.now (graph_of rules table) c.deref-2.result.now (all_right_nodes rules) c.in_ok-place.field-0 c.in-Some.place
     (c.deref.ensures.value ∙ c.in_ok-graph.ensures) (c.deref-2.ensures.value ∙ c.in_ok-roots.ensures) c.in-Some.is c.in_ok-place.ensures.found in
     let within : c.in-Some.place < length rules = round_within rules c.args.universe table c.requires.no_cycles c.requires.spec c.requires.sizes c.in-Some.place found in
     omega (arith, within, few_rules rules c.requires.spec)
@@ -53,8 +53,8 @@ pub name_of-requires-clause-high : goal.name_of-requires-clause-high
 name_of-requires-clause-high c =
     let rules = c.args.spec.now in
     let table = c.args.sizes.now in
-    let found : IsFirstRound (graph_of rules table) (right_nodes_from 0 rules) c.in-Some.place =
-    found_by c.deref.result.now (graph_of rules table) c.deref-2.result.now (right_nodes_from 0 rules) c.in_ok-place.field-0 c.in-Some.place
+    let found : IsFirstRound (graph_of rules table) (all_right_nodes rules) c.in-Some.place =
+    found_by c.deref.result.now (graph_of rules table) c.deref-2.result.now (all_right_nodes rules) c.in_ok-place.field-0 c.in-Some.place
     (c.deref.ensures.value ∙ c.in_ok-graph.ensures) (c.deref-2.ensures.value ∙ c.in_ok-roots.ensures) c.in-Some.is c.in_ok-place.ensures.found in
     let within : c.in-Some.place < length rules = round_within rules c.args.universe table c.requires.no_cycles c.requires.spec c.requires.sizes c.in-Some.place found in
     omega (arith, within)
@@ -63,8 +63,8 @@ pub offset_bounds-sizes-place : goal.offset_bounds-sizes-place
 offset_bounds-sizes-place c =
     let rules = c.args.spec.now in
     let table = c.args.sizes.now in
-    let found : IsFirstRound (graph_of rules table) (right_nodes_from 0 rules) c.in-Some.place =
-    found_by c.deref.result.now (graph_of rules table) c.deref-2.result.now (right_nodes_from 0 rules) c.in_ok-place.field-0 c.in-Some.place
+    let found : IsFirstRound (graph_of rules table) (all_right_nodes rules) c.in-Some.place =
+    found_by c.deref.result.now (graph_of rules table) c.deref-2.result.now (all_right_nodes rules) c.in_ok-place.field-0 c.in-Some.place
     (c.deref.ensures.value ∙ c.in_ok-graph.ensures) (c.deref-2.ensures.value ∙ c.in_ok-roots.ensures) c.in-Some.is c.in_ok-place.ensures.found in
     let within : c.in-Some.place < length rules = round_within rules c.args.universe table c.requires.no_cycles c.requires.spec c.requires.sizes c.in-Some.place found in
     omega (arith, within, few_rules rules c.requires.spec)
@@ -73,8 +73,8 @@ pub bounds-sizes-place : goal.bounds-sizes-place
 bounds-sizes-place c =
     let rules = c.args.spec.now in
     let table = c.args.sizes.now in
-    let found : IsFirstRound (graph_of rules table) (right_nodes_from 0 rules) c.in-Some.place =
-    found_by c.deref.result.now (graph_of rules table) c.deref-2.result.now (right_nodes_from 0 rules) c.in_ok-place.field-0 c.in-Some.place
+    let found : IsFirstRound (graph_of rules table) (all_right_nodes rules) c.in-Some.place =
+    found_by c.deref.result.now (graph_of rules table) c.deref-2.result.now (all_right_nodes rules) c.in_ok-place.field-0 c.in-Some.place
     (c.deref.ensures.value ∙ c.in_ok-graph.ensures) (c.deref-2.ensures.value ∙ c.in_ok-roots.ensures) c.in-Some.is c.in_ok-place.ensures.found in
     let within : c.in-Some.place < length rules = round_within rules c.args.universe table c.requires.no_cycles c.requires.spec c.requires.sizes c.in-Some.place found in
     omega (arith, within, c.requires.sizes.for_each)
@@ -83,8 +83,8 @@ pub returns-in-Some-clause-refused : goal.returns-in-Some-clause-refused
 returns-in-Some-clause-refused c =
     let rules = c.args.spec.now in
     let table = c.args.sizes.now in
-    let found : IsFirstRound (graph_of rules table) (right_nodes_from 0 rules) c.in-Some.place =
-    found_by c.deref.result.now (graph_of rules table) c.deref-2.result.now (right_nodes_from 0 rules) c.in_ok-place.field-0 c.in-Some.place
+    let found : IsFirstRound (graph_of rules table) (all_right_nodes rules) c.in-Some.place =
+    found_by c.deref.result.now (graph_of rules table) c.deref-2.result.now (all_right_nodes rules) c.in_ok-place.field-0 c.in-Some.place
     (c.deref.ensures.value ∙ c.in_ok-graph.ensures) (c.deref-2.ensures.value ∙ c.in_ok-roots.ensures) c.in-Some.is c.in_ok-place.ensures.found in
     let within : c.in-Some.place < length rules = round_within rules c.args.universe table c.requires.no_cycles c.requires.spec c.requires.sizes c.in-Some.place found in
     let inside : c.in-Some.place < length table = omega (arith, within, c.requires.sizes.for_each) in
@@ -105,8 +105,8 @@ pub checked-requires-clause-checked : goal.checked-requires-clause-checked
 checked-requires-clause-checked c =
     let rules = c.args.spec.now in
     let table = c.args.sizes.now in
-    let none : IsNoRound (graph_of rules table) (right_nodes_from 0 rules) =
-    none_by c.deref.result.now (graph_of rules table) c.deref-2.result.now (right_nodes_from 0 rules) c.in_ok-place.field-0
+    let none : IsNoRound (graph_of rules table) (all_right_nodes rules) =
+    none_by c.deref.result.now (graph_of rules table) c.deref-2.result.now (all_right_nodes rules) c.in_ok-place.field-0
     (c.deref.ensures.value ∙ c.in_ok-graph.ensures) (c.deref-2.ensures.value ∙ c.in_ok-roots.ensures) c.in_default.is c.in_ok-place.ensures.none in
     let counted : AreCounts (graph_of rules table) c.in_ok-ranks.ranks.items =
     subst (λ (graph : Graph). AreCounts graph c.in_ok-ranks.ranks.items) (c.deref-3.ensures.value ∙ c.in_ok-graph.ensures) c.in_ok-ranks.ensures in

@@ -1,7 +1,8 @@
-use Rattle.std.proofs.Common.{◌≤◌, ◌+◌, drop, arith, ◌∙◌}
-use Rattle.spec_syntax.specs.Expression.{nodes, nodes_of_all, preorder, preorder_of_all, expressions_of}
+use Rattle.std.proofs.Common.{ℕ, ◌≤◌, ◌+◌, drop, arith, ◌∙◌}
+use Rattle.spec_syntax.specs.Expression.{Expression, nodes, nodes_of_all, preorder, preorder_of_all, expressions_of}
 use Rattle.spec_syntax.proofs.NodeSteps.{nodes_step, nodes_of_one, preorder_step}
-use Rattle.well_founded.proofs.NodeSteps.{block_step, grown_length}
+use Rattle.lists.proofs.Indexed.{grown_length, grown_step}
+use Rattle.well_founded.specs.NodeTable.{node_of}
 use Rattle.well_founded.proofs.node.+numbering.Goals as goal
 
 pub push_all_nodes-push_nodes-requires : goal.push_all_nodes-push_nodes-requires
@@ -16,11 +17,11 @@ push_all_nodes-loop-expr-preserved t c =
     let i = c.loop-expr.expr-index in
     let expr = c.expr-item.result in (
       c.loop-expr.invariant.0
-          ∙ block_step rules c.loop-expr.table.items c.push_nodes.new.table.items (preorder expr) (preorder_of_all (expressions_of (drop (i + 1) exprs)))
+          ∙ grown_step (λ (node : ℕ × Expression). node_of rules node.0 node.1) c.loop-expr.table.items c.push_nodes.new.table.items (preorder expr) (preorder_of_all (expressions_of (drop (i + 1) exprs)))
           (preorder_of_all (expressions_of (drop i exprs))) c.in_ok-push_nodes.ensures (preorder_step exprs i expr c.loop-expr-test.true c.expr-item.is),
       omega (
         arith,
-        grown_length rules c.loop-expr.table.items c.push_nodes.new.table.items (preorder expr) c.in_ok-push_nodes.ensures,
+        grown_length (λ (node : ℕ × Expression). node_of rules node.0 node.1) c.loop-expr.table.items c.push_nodes.new.table.items (preorder expr) c.in_ok-push_nodes.ensures,
         nodes_step exprs i expr c.loop-expr-test.true c.expr-item.is,
       ),
     )

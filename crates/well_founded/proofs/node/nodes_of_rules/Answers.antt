@@ -1,9 +1,10 @@
-use Rattle.std.proofs.Common.{◌≤◌, ◌+◌, length, drop, arith, ◌∙◌}
-use Rattle.spec_syntax.specs.Expression.{preorder}
+use Rattle.std.proofs.Common.{ℕ, ◌≤◌, ◌+◌, length, drop, arith, ◌∙◌}
+use Rattle.spec_syntax.specs.Expression.{Expression, preorder}
 use Rattle.spec_syntax.specs.Rules.{all_nodes}
 use Rattle.spec_syntax.proofs.RulesLemmas.{all_nodes-from_spec}
 use Rattle.spec_syntax.proofs.NodeSteps.{all_nodes_step, length_all_nodes_step}
-use Rattle.well_founded.proofs.NodeSteps.{block_step, grown_length}
+use Rattle.lists.proofs.Indexed.{grown_length, grown_step}
+use Rattle.well_founded.specs.NodeTable.{node_of}
 use Rattle.well_founded.proofs.node.nodes_of_rules.Goals as goal
 
 pub push_nodes-requires : goal.push_nodes-requires
@@ -17,11 +18,11 @@ loop-place-preserved c =
     let place = c.loop-place.place in
     let right = c.right.result.now in (
       c.loop-place.invariant.0
-          ∙ block_step rules c.loop-place.table.items c.push_nodes.new.table.items (preorder right) (all_nodes (drop (place + 1) rules))
+          ∙ grown_step (λ (node : ℕ × Expression). node_of rules node.0 node.1) c.loop-place.table.items c.push_nodes.new.table.items (preorder right) (all_nodes (drop (place + 1) rules))
           (all_nodes (drop place rules)) c.in_ok-push_nodes.ensures (all_nodes_step rules place right c.right.ensures.value),
       omega (
         arith,
-        grown_length rules c.loop-place.table.items c.push_nodes.new.table.items (preorder right) c.in_ok-push_nodes.ensures,
+        grown_length (λ (node : ℕ × Expression). node_of rules node.0 node.1) c.loop-place.table.items c.push_nodes.new.table.items (preorder right) c.in_ok-push_nodes.ensures,
         length_all_nodes_step rules place right c.right.ensures.value,
       ),
     )

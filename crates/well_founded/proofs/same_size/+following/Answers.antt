@@ -1,8 +1,9 @@
-use Rattle.std.proofs.Common.{◌≤◌, ◌+◌, drop, arith, ◌∙◌}
-use Rattle.spec_syntax.specs.Expression.{nodes, nodes_of_all, preorder, preorder_of_all, expressions_of}
+use Rattle.std.proofs.Common.{ℕ, ◌≤◌, ◌+◌, drop, arith, ◌∙◌}
+use Rattle.spec_syntax.specs.Expression.{Expression, nodes, nodes_of_all, preorder, preorder_of_all, expressions_of}
 use Rattle.well_founded.specs.Least.{least_with, size_of_name}
 use Rattle.spec_syntax.proofs.NodeSteps.{nodes_step, nodes_of_one, preorder_step}
-use Rattle.well_founded.proofs.SameSizeCode.{rows_step, grown_rows}
+use Rattle.lists.proofs.Indexed.{grown_length, grown_step}
+use Rattle.well_founded.specs.SameSize.{followers}
 use Rattle.well_founded.proofs.same_size.+following.Goals as goal
 
 pub push_all_followers-push_followers-requires : goal.push_all_followers-push_followers-requires
@@ -30,11 +31,11 @@ push_all_followers-loop-expr-preserved t c =
     let i = c.loop-expr.expr-index in
     let expr = c.expr-item.result in (
       c.loop-expr.invariant.0
-          ∙ rows_step rules sizes c.loop-expr.graph.items c.push_followers.new.graph.items (preorder expr) (preorder_of_all (expressions_of (drop (i + 1) exprs)))
+          ∙ grown_step (λ (node : ℕ × Expression). followers rules sizes node.0 node.1) c.loop-expr.graph.items c.push_followers.new.graph.items (preorder expr) (preorder_of_all (expressions_of (drop (i + 1) exprs)))
           (preorder_of_all (expressions_of (drop i exprs))) c.in_ok-push_followers.ensures (preorder_step exprs i expr c.loop-expr-test.true c.expr-item.is),
       omega (
         arith,
-        grown_rows rules sizes c.loop-expr.graph.items c.push_followers.new.graph.items (preorder expr) c.in_ok-push_followers.ensures,
+        grown_length (λ (node : ℕ × Expression). followers rules sizes node.0 node.1) c.loop-expr.graph.items c.push_followers.new.graph.items (preorder expr) c.in_ok-push_followers.ensures,
         nodes_step exprs i expr c.loop-expr-test.true c.expr-item.is,
       ),
     )

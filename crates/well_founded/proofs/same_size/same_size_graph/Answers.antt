@@ -1,10 +1,11 @@
-use Rattle.std.proofs.Common.{◌≤◌, ◌+◌, length, drop, arith, ◌∙◌}
-use Rattle.spec_syntax.specs.Expression.{preorder}
+use Rattle.std.proofs.Common.{ℕ, ◌≤◌, ◌+◌, length, drop, arith, ◌∙◌}
+use Rattle.spec_syntax.specs.Expression.{Expression, preorder}
 use Rattle.spec_syntax.specs.Rules.{all_nodes}
 use Rattle.spec_syntax.proofs.RulesLemmas.{all_nodes-from_spec}
 use Rattle.well_founded.specs.Least.{least_with, size_of_name}
 use Rattle.spec_syntax.proofs.NodeSteps.{all_nodes_step, length_all_nodes_step}
-use Rattle.well_founded.proofs.SameSizeCode.{rows_step, grown_rows}
+use Rattle.lists.proofs.Indexed.{grown_length, grown_step}
+use Rattle.well_founded.specs.SameSize.{followers}
 use Rattle.well_founded.proofs.same_size.same_size_graph.Goals as goal
 
 pub push_followers-requires-clause-room : goal.push_followers-requires-clause-room
@@ -19,11 +20,11 @@ loop-place-preserved c =
     let place = c.loop-place.place in
     let right = c.right.result.now in (
       c.loop-place.invariant.0
-          ∙ rows_step rules sizes c.loop-place.graph.items c.push_followers.new.graph.items (preorder right) (all_nodes (drop (place + 1) rules))
+          ∙ grown_step (λ (node : ℕ × Expression). followers rules sizes node.0 node.1) c.loop-place.graph.items c.push_followers.new.graph.items (preorder right) (all_nodes (drop (place + 1) rules))
           (all_nodes (drop place rules)) c.in_ok-push_followers.ensures (all_nodes_step rules place right c.right.ensures.value),
       omega (
         arith,
-        grown_rows rules sizes c.loop-place.graph.items c.push_followers.new.graph.items (preorder right) c.in_ok-push_followers.ensures,
+        grown_length (λ (node : ℕ × Expression). followers rules sizes node.0 node.1) c.loop-place.graph.items c.push_followers.new.graph.items (preorder right) c.in_ok-push_followers.ensures,
         length_all_nodes_step rules place right c.right.ensures.value,
       ),
     )
