@@ -13,7 +13,7 @@ use Rattle.spec_syntax.specs.Rules.{Rules, is_same_name, symbol, rule_name, are_
 use Rattle.well_founded.specs.declared.node.NodeKind.{NodeKind}
 use Rattle.well_founded.specs.declared.node.NodeKind.TheVariants as told
 use Rattle.well_founded.specs.NodeKinds.{kind_of, container, is_container}
-use Rattle.well_founded.proofs.CheckSteps.{slice_some}
+use Rattle.lists.proofs.Positions.{slice_some}
 use Rattle.spec_syntax.proofs.RulesLemmas.{found_rule}
 
 -- ---- kinds

@@ -25,7 +25,7 @@ use Rattle.well_founded.specs.Sizes.{IsLeast}
 use Rattle.well_founded.specs.Rank.{IsRank}
 use Rattle.well_founded.specs.SameSize.{is_told_inside}
 use Rattle.well_founded.specs.Checked.{Checked, grammar}
-use Rattle.well_founded.proofs.CheckSteps.{slice_some}
+use Rattle.lists.proofs.Positions.{slice_some}
 use Rattle.well_founded.proofs.LeastRounds.{right_of}
 use Rattle.listing_laws.specs.Lister.{list_epsilon, list_atom, alternatives, named}
 use Rattle.listing_laws.proofs.Between.{none_below}

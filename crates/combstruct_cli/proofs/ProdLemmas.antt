@@ -24,7 +24,7 @@ use Rattle.spec_syntax.proofs.NodesLemmas.{in_nodes, child_node, length-children
 use Rattle.well_founded.specs.Sizes.{IsLeast, no_least}
 use Rattle.well_founded.specs.Rank.{CanFill}
 use Rattle.well_founded.specs.Checked.{Checked, grammar}
-use Rattle.well_founded.proofs.CheckSteps.{slice_some}
+use Rattle.lists.proofs.Positions.{slice_some}
 use Rattle.splits.specs.Splits.{Split, splits}
 use Rattle.splits.specs.Parts.{has_length, parts}
 use Rattle.listing_laws.specs.Lister.{list_no_components, each_before, by_parts, product}

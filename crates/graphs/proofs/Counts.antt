@@ -2,6 +2,7 @@
 use Rattle.std.proofs.Common.{◌≡◌, ◌⊎◌, ℕ, zero, suc, ◌+◌, ◌<◌, ◌≤◌, Bool, true, false, List, [], ◌∷◌, ◌++◌, length, slice_get, Option, Some, None, refl, add-one, sym, ap, ◌∙◌, subst, inl, inr, arith}
 use Rattle.std.proofs.lemmas.List.{length_push, nil_from_length}
 use Rattle.std.proofs.lemmas.Option.{slice_get_within}
+use Rattle.lists.proofs.Places.{pushed_at}
 use Rattle.graphs.specs.Graph.{Graph, Leads, IsGraph, IsMarked, IsUnmarked, Reaches, count_true, IsCount, AreCounts}
 use Rattle.graphs.proofs.Reached.{leads_trans, count_first, count_below, marked_or_not, marks_exist}
 
@@ -65,12 +66,6 @@ pub record CountsSo (graph : Graph) (n : ℕ) (counts : List ℕ) : Type 0 where
 pub counts_none : (graph : Graph) → CountsSo graph 0 []
 counts_none graph = record { for_each = refl; each = λ i count at. let wrong : ◌≡◌ {A = Option ℕ} None (Some count) = at in cc }
 
-pushed_at : (counts : List ℕ) (last i count : ℕ) → slice_get (counts ++ last ∷ []) i ≡ Some count → (slice_get counts i ≡ Some count) ⊎ ((i ≡ length counts) × (count ≡ last))
-pushed_at [] last zero count at = let same : Some last ≡ Some count = at in inr (refl, cc)
-pushed_at [] last (suc i) count at = let wrong : ◌≡◌ {A = Option ℕ} None (Some count) = at in cc
-pushed_at (first ∷ counts) last zero count at = inl at
-pushed_at (first ∷ counts) last (suc i) count at = elim (pushed_at counts last i count at) [ inl before ↦ inl before | inr here ↦ inr (ap suc here.0, here.1) ]
-
 pub counts_more : (graph : Graph) (n : ℕ) (counts : List ℕ) (marks : List Bool) (count : ℕ) → CountsSo graph n counts → Reaches graph n marks → count ≡ count_true marks
     → CountsSo graph (n + 1) (counts ++ count ∷ [])
 counts_more graph n counts marks count so reaches counted = record {
@@ -83,23 +78,6 @@ counts_more graph n counts marks count so reaches counted = record {
 
 pub counts_all : (graph : Graph) (n : ℕ) (counts : List ℕ) → n ≡ length graph → CountsSo graph n counts → AreCounts graph counts
 counts_all graph n counts all so = record { for_each = so.for_each ∙ all; each = so.each }
-
--- counts fall on each way, where no node leads to itself
-pub counts_fall : (graph : Graph) (counts : List ℕ) → AreCounts graph counts → ((k : ℕ) → Leads graph k k → ⊥)
-    → (i j m n : ℕ) → slice_get counts i ≡ Some m → slice_get counts j ≡ Some n → Leads graph i j → n < m
-counts_fall graph counts are no_way i j m n at_i at_j way =
-    let one = are.each i m at_i in let other = are.each j n at_j in
-    let less = count_falls graph i j one.marks other.marks one.reached other.reached way (no_way j) in
-    omega (arith, less, one.counted, other.counted)
-
--- and they are below the number of nodes
-pub counts_within : (graph : Graph) (counts : List ℕ) → AreCounts graph counts → ((k : ℕ) → Leads graph k k → ⊥)
-    → (i n : ℕ) → slice_get counts i ≡ Some n → n < length graph
-counts_within graph counts are no_way i n at =
-    let one = are.each i n at in
-    let within : i < length graph = omega (arith, slice_get_within counts i n at, are.for_each) in
-    let less = count_within graph i one.marks one.reached within (no_way i) in
-    omega (arith, less, one.counted)
 
 counts_to : (graph : Graph) → IsGraph graph → (n : ℕ) → (counts : List ℕ) × CountsSo graph n counts
 counts_to graph graph_is zero = ([], counts_none graph)

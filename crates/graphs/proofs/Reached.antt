@@ -27,13 +27,15 @@ leads_trans graph i j k first second = leads_by_trans graph first.0 second.0 i j
 pub leads_step : (graph : Graph) (i middle j : ℕ) → Leads graph i middle → IsIn j (next graph middle) → Leads graph i j
 leads_step graph i middle j way step = leads_trans graph i middle j way (zero, step)
 
--- one gets to nodes only
-leads_by_node : (graph : Graph) → IsGraph graph → (between i j : ℕ) → LeadsBy graph between i j → j < length graph
-leads_by_node graph graph_is zero i j way = graph_is i j way
-leads_by_node graph graph_is (suc between) i j way = leads_by_node graph graph_is between way.0 j way.2
+-- a way is a step, or a way and then a step
+last_step_by : (graph : Graph) (between i j : ℕ) → LeadsBy graph between i j → (middle : ℕ) × ((i ≡ middle) ⊎ Leads graph i middle) × IsIn j (next graph middle)
+last_step_by graph zero i j way = (i, inl refl, way)
+last_step_by graph (suc between) i j way =
+    let rest = last_step_by graph between way.0 j way.2 in
+    (rest.0, inr (elim (rest.1) [ inl same ↦ (zero, subst (λ (middle : ℕ). IsIn middle (next graph i)) same way.1) | inr more ↦ step_leads graph i way.0 rest.0 way.1 more ]), rest.2)
 
-pub leads_node : (graph : Graph) → IsGraph graph → (i j : ℕ) → Leads graph i j → j < length graph
-leads_node graph graph_is i j way = leads_by_node graph graph_is way.0 i j way.1
+pub last_step : (graph : Graph) (i j : ℕ) → Leads graph i j → (middle : ℕ) × ((i ≡ middle) ⊎ Leads graph i middle) × IsIn j (next graph middle)
+last_step graph i j way = last_step_by graph way.0 i j way.1
 
 -- where marks are closed, what one gets to from a node with a mark has one
 closed_from : (graph : Graph) (i : ℕ) (marks : List Bool) → IsClosed graph i marks → (between middle j : ℕ) → IsMarked marks middle → LeadsBy graph between middle j → IsMarked marks j

@@ -64,3 +64,14 @@ pub record IsNew (graph : Graph) (i : ℕ) (marks : List Bool) (j : ℕ) : Type 
 pub record IsClosed (graph : Graph) (i : ℕ) (marks : List Bool) : Type 0 where
   pub begins : (j : ℕ) → IsIn j (next graph i) → IsMarked marks j
   pub goes_on : (middle j : ℕ) → IsMarked marks middle → IsIn j (next graph middle) → IsMarked marks j
+
+-- the first of the nodes that lead to themselves stands at this place, from 0
+pub record IsFirstRound (graph : Graph) (nodes : List ℕ) (place : ℕ) : Type 0 where
+  pub node : ℕ
+  pub at : slice_get nodes place ≡ Some node
+  pub leads : Leads graph node node
+  pub before : (i other : ℕ) → i < place → slice_get nodes i ≡ Some other → Leads graph other other → ⊥
+
+-- none of the nodes leads to itself
+abbrev pub IsNoRound : Graph → List ℕ → Type 0
+IsNoRound graph nodes = (i node : ℕ) → slice_get nodes i ≡ Some node → Leads graph node node → ⊥

@@ -22,12 +22,12 @@ use Rattle.spec_syntax.proofs.NodesLemmas.{in_nodes, node_of, child_node, length
 use Rattle.well_founded.specs.Rank.{StandsAt, AreRanks}
 use Rattle.well_founded.specs.WellFounded.{HoldsNull, OfNone}
 use Rattle.lists.proofs.Places.{get_right}
-use Rattle.well_founded.proofs.CheckSteps.{slice_some}
+use Rattle.lists.proofs.Positions.{slice_some}
+use Rattle.lists.proofs.Tests.{held}
 use Rattle.well_founded.proofs.EndlessLaws.{in_size, node_full}
 use Rattle.well_founded.proofs.LeastRounds.{right_of}
 use Rattle.well_founded.proofs.ManyLaws.{component_is}
 use Rattle.spec_syntax.proofs.ExpressionLemmas.{list_of}
-use Rattle.well_founded.proofs.LeastLaws.{held}
 use Rattle.listing_laws.specs.Laws.{IsNeverEmpty}
 use Rattle.listing_laws.proofs.Containers.{list_is, no_list, container_is, component_stands}
 use Rattle.listing_laws.proofs.SetsRead.{in_sets, size-in_sets, stands_in_sets, read_of}

@@ -16,7 +16,8 @@ use Rattle.struct_model.specs.Structure.{Structure, Eps, Atom, Named, labels, ke
 use Rattle.struct_model.specs.Order.{key_order, order_within}
 use Rattle.struct_model.specs.Membership.{is_of, names, is_epsilon, is_atom, is_label}
 use Rattle.struct_model.specs.Listing.{Before, IsOne, Lists}
-use Rattle.well_founded.proofs.LeastLaws.{held, names_from}
+use Rattle.lists.proofs.Tests.{held}
+use Rattle.well_founded.proofs.LeastLaws.{names_from}
 use Rattle.listing_laws.specs.Lister.{named}
 use Rattle.listing_laws.proofs.Containers.{no_list}
 use Rattle.lists.proofs.Enumerated as enumerated

@@ -28,7 +28,8 @@ use Rattle.well_founded.specs.Sizes.{IsOf}
 use Rattle.well_founded.specs.Rank.{StandsAt}
 use Rattle.well_founded.specs.WellFounded.{HasNullElement}
 use Rattle.well_founded.proofs.SetsLaws.{symbol_reading, right_reading, argument_reading, epsilon_reading, atom_reading}
-use Rattle.well_founded.proofs.LeastLaws.{held, HasRule, rule_of, names_from}
+use Rattle.lists.proofs.Tests.{held}
+use Rattle.well_founded.proofs.LeastLaws.{HasRule, rule_of, names_from}
 use Rattle.listing_laws.specs.Laws.{IsNeverEmpty}
 use Rattle.listing_laws.proofs.Containers.{parts_pass, list_is, no_list, no_product}
 use Rattle.lists.proofs.Enumerated.{in_map}

@@ -11,3 +11,4 @@ pub mod AscendingAbove
 pub mod NumberOrder
 pub mod Orders
 pub mod Indexed
+pub mod Positions

@@ -5,3 +5,4 @@ pub mod NodeRanges
 pub mod NodeSteps
 pub mod NodePlaces
 mod NodePlaceCases
+pub mod RuleNames

@@ -1,13 +1,12 @@
 -- The check of a grammar always says something.
-use Rattle.std.proofs.Common.{◌≡◌, ◌⊎◌, ◌↔◌, inl, inr, ℕ, ◌+◌, Bool, true, false, not, List, [], ◌∷◌, length, refl, sym, ap, ◌∙◌, arith, true≢false, slice_get, nat_eq, cond, Option, Some, None}
+use Rattle.std.proofs.Common.{◌≡◌, ◌⊎◌, ◌↔◌, inl, inr, ℕ, Bool, true, false, not, List, length, refl, sym, ap, ◌∙◌, true≢false, slice_get, Option, Some, None}
 use Rattle.std.specs.Option.{option_or}
-use Rattle.std.specs.List.{position_from}
-use Rattle.std.proofs.lemmas.Bool.{and_from}
-use Rattle.std.proofs.lemmas.Bool.Decides.{nat_tests}
+use Rattle.std.proofs.lemmas.Bool.{not-false}
 use Rattle.spec_syntax.specs.Expression as expr
 use Rattle.spec_syntax.specs.Expression.{Expression, preorder}
-use Rattle.spec_syntax.specs.Rules.{Rules, symbol, is_same_name}
+use Rattle.spec_syntax.specs.Rules.{Rules, symbol}
 use Rattle.spec_syntax.specs.Grammar.{Grammar}
+use Rattle.spec_syntax.proofs.RuleNames.{symbol_of_rule}
 use Rattle.lists.specs.Enumeration.{IsIn}
 use Rattle.well_founded.specs.declared.refused.Refused.{Refused}
 use Rattle.well_founded.specs.declared.refused.Refused.TheVariants.{Undefined, CycleUnlabelled, Unproductive, NullElement, Endless}
@@ -20,8 +19,8 @@ use Rattle.well_founded.specs.SameSize.{is_null, same_size_graph}
 use Rattle.well_founded.specs.Containers.{is_not_over_null, is_without_null}
 use Rattle.well_founded.specs.WellFounded.{may_hold_cycles, HasNullElement, HoldsItself, HoldsCycle, HasNoStructure, HoldsNull, IsEndless, OfNone, IsFirst, IsEachProductive, Checks}
 use Rattle.well_founded.specs.Laws.{SaysSome, SaysOne}
-use Rattle.lists.proofs.Tests.{passes}
-use Rattle.well_founded.proofs.CyclesLaws.{name_allowed, inside_allowed, rule_allowed, one_fails}
+use Rattle.lists.proofs.Tests.{passes, one_fails}
+use Rattle.well_founded.proofs.CyclesLaws.{name_allowed, inside_allowed, rule_allowed}
 use Rattle.well_founded.proofs.SameSizeLaws.{null_size, from_null}
 use Rattle.well_founded.proofs.LeastRounds.{sizes_exist}
 use Rattle.graphs.proofs.Reached.{marks_exist}
@@ -30,10 +29,6 @@ use Rattle.well_founded.proofs.RankLaws.{is_graph}
 use Rattle.well_founded.proofs.CheckLaws.{first_or_none, first_in, one_check}
 
 -- ---- what is told of containers
-
-not_false : (b : Bool) → not b ≡ false → b ≡ true
-not_false true h = refl
-not_false false h = absurd (true≢false h)
 
 -- the test of a container over one that can be empty, by the least sizes, tells what is said of the rule
 module _ (g : Grammar) (sizes : Expression → Option ℕ) (sized : (e : Expression) → may_hold_cycles g e ≡ true → IsSize g e (sizes e)) where
@@ -50,7 +45,7 @@ module _ (g : Grammar) (sizes : Expression → Option ℕ) (sized : (e : Express
     where
       by : (e : Expression) → IsIn e (preorder right) → is_not_over_null sizes e ≡ false → HasNullElement g right
       by (expr.Many kind element card) there fails =
-          let smallest = from_null g sizes sized element (inside_allowed g right kind element card allowed there) (not_false (is_null (sizes element)) fails) in
+          let smallest = from_null g sizes sized element (inside_allowed g right kind element card allowed there) (not-false (is_null (sizes element)) fails) in
           record { kind = kind; element = element; card = card; held = there; empty = smallest.0; is_of = smallest.1; is_empty = ap length smallest.2 }
       by e there fails = absurd (true≢false fails)
 
@@ -61,28 +56,6 @@ without_start rules start h = by (name_without_rule rules) h
     by : (first : Option (List ℕ)) → option_or first (symbol_without_rule rules start) ≡ None → option_or first None ≡ None
     by None h = refl
     by (Some name) h = absurd (cc)
-
-pub same_name : (name : List ℕ) → is_same_name name name ≡ true
-same_name [] = refl
-same_name (b ∷ name) = and_from (nat_eq b b) (is_same_name name name) (itself b) (same_name name)
-  where
-    itself : (n : ℕ) → nat_eq n n ≡ true
-    itself n = grind (arith, nat_tests)
-
--- ---- the rules of names
-
-found_symbol : (test : List ℕ × Expression → Bool) (rules : Rules) (first : ℕ) (rule : List ℕ × Expression) → IsIn rule rules → test rule ≡ true → (n : ℕ) × (position_from test first rules ≡ Some n)
-found_symbol test [] first rule there h = absurd there
-found_symbol test (head ∷ rules) first rule (inl same) h = (first, ap (λ (b : Bool). cond b (Some first) (position_from test (first + 1) rules)) (ap test (sym same) ∙ h))
-found_symbol test (head ∷ rules) first rule (inr there) h = by (test head) refl (found_symbol test rules (first + 1) rule there h)
-  where
-    by : (b : Bool) → test head ≡ b → (n : ℕ) × (position_from test (first + 1) rules ≡ Some n) → (n : ℕ) × (position_from test first (head ∷ rules) ≡ Some n)
-    by true is rest = (first, ap (λ (b : Bool). cond b (Some first) (position_from test (first + 1) rules)) is)
-    by false is rest = (rest.0, ap (λ (b : Bool). cond b (Some first) (position_from test (first + 1) rules)) is ∙ rest.1)
-
--- the name of a rule has a number
-pub symbol_of_rule : (rules : Rules) (name : List ℕ) (right : Expression) → IsIn (name, right) rules → (n : ℕ) × (symbol rules name ≡ Some n)
-symbol_of_rule rules name right there = found_symbol (λ rule. is_same_name rule.0 name) rules 1 (name, right) there (same_name name)
 
 no_mark : (mark : Option Bool) → mark ≡ None → mark ≡ Some true → ⊥
 no_mark mark e f = absurd (cc)

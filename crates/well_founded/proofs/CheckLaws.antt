@@ -1,6 +1,6 @@
 -- The check of a grammar says something, and no two things.
-use Rattle.std.proofs.Common.{◌≡◌, ◌⊎◌, inl, inr, ℕ, ◌<◌, true, List, [], ◌∷◌, ◌++◌, refl, sym, ap, ◌∙◌, subst, arith, true≢false, nat_lt, Option, Some, None}
-use Rattle.std.proofs.lemmas.Bool.{lt-ltb}
+use Rattle.std.proofs.Common.{◌≡◌, ◌⊎◌, inl, inr, ℕ, zero, suc, ◌<◌, List, [], ◌∷◌, ◌++◌, refl, sym, ap, ◌∙◌, subst, arith, Option, Some, None}
+use Rattle.std.proofs.lemmas.Option.{same_Some}
 use Rattle.spec_syntax.specs.Expression as expr
 use Rattle.spec_syntax.specs.Expression.{Expression}
 use Rattle.spec_syntax.specs.Rules.{Rules}
@@ -10,7 +10,7 @@ use Rattle.well_founded.specs.declared.refused.Refused.{Refused}
 use Rattle.well_founded.specs.declared.refused.Refused.TheVariants.{Undefined, CycleUnlabelled, Unproductive, NullElement, Endless, Memory}
 use Rattle.well_founded.specs.Names.{undefined_name}
 use Rattle.well_founded.specs.Sizes.{IsLeast}
-use Rattle.well_founded.specs.WellFounded.{OfRule, HoldsCycle, HasNoStructure, HoldsNull, IsEndless, OfNone, IsFirst, IsEachProductive, IsCulprit, Checks}
+use Rattle.well_founded.specs.WellFounded.{OfRule, HoldsCycle, HasNoStructure, HoldsNull, IsEndless, OfNone, IsFirst, IsEachProductive, Checks}
 
 -- ---- the first rule
 
@@ -81,146 +81,138 @@ least_unique g e n m (inl p) (inr q) = absurd (omega (arith, p.0, p.1.has_size, 
 least_unique g e n m (inr p) (inl q) = absurd (omega (arith, q.0, q.1.has_size, p.1 q.1.smallest q.1.is_of))
 least_unique g e n m (inr p) (inr q) = p.0 ∙ sym q.0
 
--- the place of a refusal among the refusals, and that of none after them
+-- the place of an answer among the answers: that of none stands after those of the refusals, and want of memory is none of the check
 abbrev stage : Option Refused → ℕ
 stage (Some (Undefined name)) = 0
 stage (Some (CycleUnlabelled name)) = 1
 stage (Some (Unproductive name)) = 2
 stage (Some (NullElement name)) = 3
 stage (Some (Endless name n)) = 4
-stage (Some Memory) = 5
-stage None = 6
+stage None = 5
+stage (Some Memory) = 6
+
+abbrev name_told : Option Refused → List ℕ
+name_told (Some (Undefined name)) = name
+name_told (Some (CycleUnlabelled name)) = name
+name_told (Some (Unproductive name)) = name
+name_told (Some (NullElement name)) = name
+name_told (Some (Endless name n)) = name
+name_told None = []
+name_told (Some Memory) = []
+
+abbrev size_told : Option Refused → ℕ
+size_told (Some (Undefined name)) = 0
+size_told (Some (CycleUnlabelled name)) = 0
+size_told (Some (Unproductive name)) = 0
+size_told (Some (NullElement name)) = 0
+size_told (Some (Endless name n)) = n
+size_told None = 0
+size_told (Some Memory) = 0
+
+-- the answer at a stage that tells a name and a size
+abbrev answer : ℕ → List ℕ → ℕ → Option Refused
+answer zero name n = Some (Undefined name)
+answer (suc zero) name n = Some (CycleUnlabelled name)
+answer (suc (suc zero)) name n = Some (Unproductive name)
+answer (suc (suc (suc zero))) name n = Some (NullElement name)
+answer (suc (suc (suc (suc zero)))) name n = Some (Endless name n)
+answer (suc (suc (suc (suc (suc zero))))) name n = None
+answer (suc (suc (suc (suc (suc (suc _)))))) name n = Some Memory
+
+answer_is : (said : Option Refused) → answer (stage said) (name_told said) (size_told said) ≡ said
+answer_is (Some (Undefined name)) = refl
+answer_is (Some (CycleUnlabelled name)) = refl
+answer_is (Some (Unproductive name)) = refl
+answer_is (Some (NullElement name)) = refl
+answer_is (Some (Endless name n)) = refl
+answer_is None = refl
+answer_is (Some Memory) = refl
 
 module _ (g : Grammar) (start : Option (List ℕ)) where
-  nothing_undefined : (said : Option Refused) → Checks g start said → nat_lt 0 (stage said) ≡ true → undefined_name g.rules start ≡ None
-  nothing_undefined (Some (Undefined name)) p h = absurd (true≢false (sym h))
-  nothing_undefined (Some (CycleUnlabelled name)) p h = p.0
-  nothing_undefined (Some (Unproductive name)) p h = p.0
-  nothing_undefined (Some (NullElement name)) p h = p.0
-  nothing_undefined (Some (Endless name n)) p h = p.0
-  nothing_undefined (Some Memory) p h = absurd p
-  nothing_undefined None p h = p.1
+  -- what an answer at a stage says of the name and the size that it tells
+  abbrev Said : ℕ → List ℕ → ℕ → Type 0
+  Said zero name n = (undefined_name g.rules start ≡ Some name) × (n ≡ 0)
+  Said (suc zero) name n = IsFirst (HoldsCycle g) g.rules name × (n ≡ 0)
+  Said (suc (suc zero)) name n = IsFirst (HasNoStructure g) g.rules name × (n ≡ 0)
+  Said (suc (suc (suc zero))) name n = IsFirst (HoldsNull g) g.rules name × (n ≡ 0)
+  Said (suc (suc (suc (suc zero)))) name n = IsFirst (IsEndless g) g.rules name × IsLeast g (expr.Name name) n
+  Said (suc (suc (suc (suc (suc _))))) name n = (name ≡ []) × (n ≡ 0)
 
-  no_cycles : (said : Option Refused) → Checks g start said → nat_lt 1 (stage said) ≡ true → OfNone (HoldsCycle g) g.rules
-  no_cycles (Some (Undefined name)) p h = absurd (true≢false (sym h))
-  no_cycles (Some (CycleUnlabelled name)) p h = absurd (true≢false (sym h))
-  no_cycles (Some (Unproductive name)) p h = p.1
-  no_cycles (Some (NullElement name)) p h = p.1
-  no_cycles (Some (Endless name n)) p h = p.1
-  no_cycles (Some Memory) p h = absurd p
-  no_cycles None p h = p.0.no_cycles
+  said : (one : Option Refused) → Checks g start one → Said (stage one) (name_told one) (size_told one)
+  said (Some (Undefined name)) p = (p, refl)
+  said (Some (CycleUnlabelled name)) p = (p.1, refl)
+  said (Some (Unproductive name)) p = (p.2, refl)
+  said (Some (NullElement name)) p = (p.3, refl)
+  said (Some (Endless name n)) p = (p.4, p.5)
+  said None p = (refl, refl)
+  said (Some Memory) p = absurd p
 
-  all_productive : (said : Option Refused) → Checks g start said → nat_lt 2 (stage said) ≡ true → IsEachProductive g
-  all_productive (Some (Undefined name)) p h = absurd (true≢false (sym h))
-  all_productive (Some (CycleUnlabelled name)) p h = absurd (true≢false (sym h))
-  all_productive (Some (Unproductive name)) p h = absurd (true≢false (sym h))
-  all_productive (Some (NullElement name)) p h = p.2
-  all_productive (Some (Endless name n)) p h = p.2
-  all_productive (Some Memory) p h = absurd p
-  all_productive None p h = p.0.productive
+  -- of one stage there is one answer
+  alike : (k : ℕ) (name other : List ℕ) (n m : ℕ) → Said k name n → Said k other m → (name ≡ other) × (n ≡ m)
+  alike zero name other n m p q = let same : Some name ≡ Some other = sym p.0 ∙ q.0 in (same_Some name other same, p.1 ∙ sym q.1)
+  alike (suc zero) name other n m p q = (first_unique (HoldsCycle g) g.rules name other p.0 q.0, p.1 ∙ sym q.1)
+  alike (suc (suc zero)) name other n m p q = (first_unique (HasNoStructure g) g.rules name other p.0 q.0, p.1 ∙ sym q.1)
+  alike (suc (suc (suc zero))) name other n m p q = (first_unique (HoldsNull g) g.rules name other p.0 q.0, p.1 ∙ sym q.1)
+  alike (suc (suc (suc (suc zero)))) name other n m p q =
+      let same = first_unique (IsEndless g) g.rules name other p.0 q.0 in
+      (same, least_unique g (expr.Name other) n m (subst (λ (found : List ℕ). IsLeast g (expr.Name found) n) same p.1) q.1)
+  alike (suc (suc (suc (suc (suc k))))) name other n m p q = (p.0 ∙ sym q.0, p.1 ∙ sym q.1)
 
-  no_nulls : (said : Option Refused) → Checks g start said → nat_lt 3 (stage said) ≡ true → OfNone (HoldsNull g) g.rules
-  no_nulls (Some (Undefined name)) p h = absurd (true≢false (sym h))
-  no_nulls (Some (CycleUnlabelled name)) p h = absurd (true≢false (sym h))
-  no_nulls (Some (Unproductive name)) p h = absurd (true≢false (sym h))
-  no_nulls (Some (NullElement name)) p h = absurd (true≢false (sym h))
-  no_nulls (Some (Endless name n)) p h = p.3
-  no_nulls (Some Memory) p h = absurd p
-  no_nulls None p h = p.0.no_null_elements
+  -- the fault of a stage doesn't stand, and the last stage is the last one
+  abbrev Passed : ℕ → Type 0
+  Passed zero = undefined_name g.rules start ≡ None
+  Passed (suc zero) = OfNone (HoldsCycle g) g.rules
+  Passed (suc (suc zero)) = IsEachProductive g
+  Passed (suc (suc (suc zero))) = OfNone (HoldsNull g) g.rules
+  Passed (suc (suc (suc (suc zero)))) = OfNone (IsEndless g) g.rules
+  Passed (suc (suc (suc (suc (suc _))))) = ⊥
 
-  none_endless : (said : Option Refused) → Checks g start said → nat_lt 4 (stage said) ≡ true → OfNone (IsEndless g) g.rules
-  none_endless (Some (Undefined name)) p h = absurd (true≢false (sym h))
-  none_endless (Some (CycleUnlabelled name)) p h = absurd (true≢false (sym h))
-  none_endless (Some (Unproductive name)) p h = absurd (true≢false (sym h))
-  none_endless (Some (NullElement name)) p h = absurd (true≢false (sym h))
-  none_endless (Some (Endless name n)) p h = absurd (true≢false (sym h))
-  none_endless (Some Memory) p h = absurd p
-  none_endless None p h = p.0.finite
+  -- an answer says that the faults of the stages before it don't stand
+  passed : (k : ℕ) (one : Option Refused) → Checks g start one → k < stage one → Passed k
+  passed k (Some (Undefined name)) p h = absurd (omega (arith, h))
+  passed zero (Some (CycleUnlabelled name)) p h = p.0
+  passed (suc k) (Some (CycleUnlabelled name)) p h = absurd (omega (arith, h))
+  passed zero (Some (Unproductive name)) p h = p.0
+  passed (suc zero) (Some (Unproductive name)) p h = p.1
+  passed (suc (suc k)) (Some (Unproductive name)) p h = absurd (omega (arith, h))
+  passed zero (Some (NullElement name)) p h = p.0
+  passed (suc zero) (Some (NullElement name)) p h = p.1
+  passed (suc (suc zero)) (Some (NullElement name)) p h = p.2
+  passed (suc (suc (suc k))) (Some (NullElement name)) p h = absurd (omega (arith, h))
+  passed zero (Some (Endless name n)) p h = p.0
+  passed (suc zero) (Some (Endless name n)) p h = p.1
+  passed (suc (suc zero)) (Some (Endless name n)) p h = p.2
+  passed (suc (suc (suc zero))) (Some (Endless name n)) p h = p.3
+  passed (suc (suc (suc (suc k)))) (Some (Endless name n)) p h = absurd (omega (arith, h))
+  passed zero None p h = p.1
+  passed (suc zero) None p h = p.0.no_cycles
+  passed (suc (suc zero)) None p h = p.0.productive
+  passed (suc (suc (suc zero))) None p h = p.0.no_null_elements
+  passed (suc (suc (suc (suc zero)))) None p h = p.0.finite
+  passed (suc (suc (suc (suc (suc k))))) None p h = absurd (omega (arith, h))
+  passed k (Some Memory) p h = absurd p
 
-  -- a refusal and what stands after it are not both said
-  not_after : (refused : Refused) (said : Option Refused) → IsCulprit g start refused → Checks g start said → nat_lt (stage (Some refused)) (stage said) ≡ true → ⊥
-  not_after (Undefined name) said p q h = let none = nothing_undefined said q h in absurd (cc)
-  not_after (CycleUnlabelled name) said p q h = first_not_none (HoldsCycle g) g.rules name p.1 (no_cycles said q h)
-  not_after (Unproductive name) said p q h =
-      p.2.holds (all_productive said q h name p.2.right (first_in (HasNoStructure g) g.rules name p.2))
-  not_after (NullElement name) said p q h = first_not_none (HoldsNull g) g.rules name p.3 (no_nulls said q h)
-  not_after (Endless name n) said p q h = first_not_none (IsEndless g) g.rules name p.4 (none_endless said q h)
-  not_after Memory said p q h = absurd p
+  -- and that of its own does
+  not_passed : (k : ℕ) (name : List ℕ) (n : ℕ) → Said k name n → Passed k → ⊥
+  not_passed zero name n p q = let wrong : None ≡ Some name = sym q ∙ p.0 in cc
+  not_passed (suc zero) name n p q = first_not_none (HoldsCycle g) g.rules name p.0 q
+  not_passed (suc (suc zero)) name n p q = p.0.holds (q name p.0.right (first_in (HasNoStructure g) g.rules name p.0))
+  not_passed (suc (suc (suc zero))) name n p q = first_not_none (HoldsNull g) g.rules name p.0 q
+  not_passed (suc (suc (suc (suc zero)))) name n p q = first_not_none (IsEndless g) g.rules name p.0 q
+  not_passed (suc (suc (suc (suc (suc k))))) name n p q = q
 
-  later : (one other : Option Refused) → Checks g start one → Checks g start other → stage one < stage other → ⊥
-  later (Some refused) other p q h = not_after refused other p q (lt-ltb _ _ h)
-  later None (Some (Undefined name)) p q h = omega (arith, h)
-  later None (Some (CycleUnlabelled name)) p q h = omega (arith, h)
-  later None (Some (Unproductive name)) p q h = omega (arith, h)
-  later None (Some (NullElement name)) p q h = omega (arith, h)
-  later None (Some (Endless name n)) p q h = omega (arith, h)
-  later None (Some Memory) p q h = omega (arith, h)
-  later None None p q h = omega (arith, h)
-
-  alike : (one other : Option Refused) → Checks g start one → Checks g start other → stage one ≡ stage other → one ≡ other
-  alike (Some (Undefined name)) (Some (Undefined other)) p q h = ap (λ (found : Option (List ℕ)). option_refused found) (sym p ∙ q)
-    where
-      option_refused : Option (List ℕ) → Option Refused
-      option_refused None = None
-      option_refused (Some found) = Some (Undefined found)
-  alike (Some (CycleUnlabelled name)) (Some (CycleUnlabelled other)) p q h = ap (λ (found : List ℕ). Some (CycleUnlabelled found)) (first_unique (HoldsCycle g) g.rules name other p.1 q.1)
-  alike (Some (Unproductive name)) (Some (Unproductive other)) p q h = ap (λ (found : List ℕ). Some (Unproductive found)) (first_unique (HasNoStructure g) g.rules name other p.2 q.2)
-  alike (Some (NullElement name)) (Some (NullElement other)) p q h = ap (λ (found : List ℕ). Some (NullElement found)) (first_unique (HoldsNull g) g.rules name other p.3 q.3)
-  alike (Some (Endless name n)) (Some (Endless other m)) p q h =
-      let same = first_unique (IsEndless g) g.rules name other p.4 q.4 in
-      let sizes : n ≡ m = least_unique g (expr.Name other) n m (subst (λ (found : List ℕ). IsLeast g (expr.Name found) n) same p.5) q.5 in
-      λ i. Some (Endless (same i) (sizes i))
-  alike None None p q h = refl
-  alike (Some (Undefined name)) (Some (CycleUnlabelled other)) p q h = absurd (omega (arith, h))
-  alike (Some (Undefined name)) (Some (Unproductive other)) p q h = absurd (omega (arith, h))
-  alike (Some (Undefined name)) (Some (NullElement other)) p q h = absurd (omega (arith, h))
-  alike (Some (Undefined name)) (Some (Endless other m)) p q h = absurd (omega (arith, h))
-  alike (Some (Undefined name)) (Some Memory) p q h = absurd (omega (arith, h))
-  alike (Some (Undefined name)) None p q h = absurd (omega (arith, h))
-  alike (Some (CycleUnlabelled name)) (Some (Undefined other)) p q h = absurd (omega (arith, h))
-  alike (Some (CycleUnlabelled name)) (Some (Unproductive other)) p q h = absurd (omega (arith, h))
-  alike (Some (CycleUnlabelled name)) (Some (NullElement other)) p q h = absurd (omega (arith, h))
-  alike (Some (CycleUnlabelled name)) (Some (Endless other m)) p q h = absurd (omega (arith, h))
-  alike (Some (CycleUnlabelled name)) (Some Memory) p q h = absurd (omega (arith, h))
-  alike (Some (CycleUnlabelled name)) None p q h = absurd (omega (arith, h))
-  alike (Some (Unproductive name)) (Some (Undefined other)) p q h = absurd (omega (arith, h))
-  alike (Some (Unproductive name)) (Some (CycleUnlabelled other)) p q h = absurd (omega (arith, h))
-  alike (Some (Unproductive name)) (Some (NullElement other)) p q h = absurd (omega (arith, h))
-  alike (Some (Unproductive name)) (Some (Endless other m)) p q h = absurd (omega (arith, h))
-  alike (Some (Unproductive name)) (Some Memory) p q h = absurd (omega (arith, h))
-  alike (Some (Unproductive name)) None p q h = absurd (omega (arith, h))
-  alike (Some (NullElement name)) (Some (Undefined other)) p q h = absurd (omega (arith, h))
-  alike (Some (NullElement name)) (Some (CycleUnlabelled other)) p q h = absurd (omega (arith, h))
-  alike (Some (NullElement name)) (Some (Unproductive other)) p q h = absurd (omega (arith, h))
-  alike (Some (NullElement name)) (Some (Endless other m)) p q h = absurd (omega (arith, h))
-  alike (Some (NullElement name)) (Some Memory) p q h = absurd (omega (arith, h))
-  alike (Some (NullElement name)) None p q h = absurd (omega (arith, h))
-  alike (Some (Endless name n)) (Some (Undefined other)) p q h = absurd (omega (arith, h))
-  alike (Some (Endless name n)) (Some (CycleUnlabelled other)) p q h = absurd (omega (arith, h))
-  alike (Some (Endless name n)) (Some (Unproductive other)) p q h = absurd (omega (arith, h))
-  alike (Some (Endless name n)) (Some (NullElement other)) p q h = absurd (omega (arith, h))
-  alike (Some (Endless name n)) (Some Memory) p q h = absurd (omega (arith, h))
-  alike (Some (Endless name n)) None p q h = absurd (omega (arith, h))
-  alike (Some Memory) (Some (Undefined other)) p q h = absurd p
-  alike (Some Memory) (Some (CycleUnlabelled other)) p q h = absurd p
-  alike (Some Memory) (Some (Unproductive other)) p q h = absurd p
-  alike (Some Memory) (Some (NullElement other)) p q h = absurd p
-  alike (Some Memory) (Some (Endless other m)) p q h = absurd p
-  alike (Some Memory) (Some Memory) p q h = absurd p
-  alike (Some Memory) None p q h = absurd p
-  alike None (Some (Undefined other)) p q h = absurd (omega (arith, h))
-  alike None (Some (CycleUnlabelled other)) p q h = absurd (omega (arith, h))
-  alike None (Some (Unproductive other)) p q h = absurd (omega (arith, h))
-  alike None (Some (NullElement other)) p q h = absurd (omega (arith, h))
-  alike None (Some (Endless other m)) p q h = absurd (omega (arith, h))
-  alike None (Some Memory) p q h = absurd (omega (arith, h))
+  not_later : (one other : Option Refused) → Checks g start one → Checks g start other → stage one < stage other → ⊥
+  not_later one other p q h = not_passed (stage one) (name_told one) (size_told one) (said one p) (passed (stage one) other q h)
 
   split : (n m : ℕ) → (n < m) ⊎ (m < n) ⊎ (n ≡ m)
   split n m = grind (arith)
 
   pub one_check : (one other : Option Refused) → Checks g start one → Checks g start other → one ≡ other
   one_check one other p q = elim (split (stage one) (stage other)) [
-    | inl h ↦ absurd (later one other p q h)
-    | inr (inl h) ↦ absurd (later other one q p h)
-    | inr (inr h) ↦ alike one other p q h
+    | inl h ↦ absurd (not_later one other p q h)
+    | inr (inl h) ↦ absurd (not_later other one q p h)
+    | inr (inr same) ↦
+        let told = alike (stage other) (name_told one) (name_told other) (size_told one) (size_told other)
+        (subst (λ (k : ℕ). Said k (name_told one) (size_told one)) same (said one p)) (said other q) in
+        sym (answer_is one) ∙ (λ i. answer (same i) (told.0 i) (told.1 i)) ∙ answer_is other
   ]

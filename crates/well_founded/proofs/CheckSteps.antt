@@ -1,57 +1,47 @@
 -- What the steps of the check find.
-use Rattle.std.proofs.Common.{◌≡◌, ◌↔◌, inl, inr, ℕ, zero, suc, ◌+◌, ◌-◌, ◌<◌, ◌≤◌, Bool, true, false, not, ◌||◌, List, [], ◌∷◌, length, take, refl, sym, ap, ◌∙◌, subst, arith, true≢false, slice_get, get_or, unwrap_or, cond, Option, Some, None, option_map, All, IfSome, add-one}
+use Rattle.std.proofs.Common.{◌≡◌, ◌↔◌, inl, inr, ℕ, zero, suc, ◌+◌, ◌-◌, ◌<◌, ◌≤◌, Bool, true, false, not, List, [], ◌∷◌, length, take, refl, sym, ap, ◌∙◌, subst, arith, true≢false, slice_get, get_or, unwrap_or, Option, Some, None, option_map, All, IfSome}
 use Rattle.std.specs.Prelude.{IsTrue, is_none, position}
-use Rattle.std.specs.List.{list_any, position_from}
+use Rattle.std.specs.List.{position_from}
 use Rattle.std.specs.Option.{option_or, option_map_or}
-use Rattle.std.specs.Cmp.Lexicographic.{same_text}
-use Rattle.std.proofs.lemmas.List.{length-map}
+use Rattle.std.proofs.lemmas.List.{length-map, get_or_default}
 use Rattle.std.proofs.lemmas.Iterator.Adapters.{position_from-zero}
-use Rattle.std.proofs.lemmas.Bool.{and_parts}
+use Rattle.std.proofs.lemmas.Bool.{not-false, not-true}
 use Rattle.std.proofs.lemmas.Bool.Decides.{nat_tests}
 use Rattle.std.proofs.lemmas.Option.{slice_get-map, slice_get_within, slice_get-get_or, same_Some}
-use Rattle.spec_syntax.specs.declared.statement.Universe.{Universe}
 use Rattle.spec_syntax.specs.Expression as expr
 use Rattle.spec_syntax.specs.Expression.{Expression}
-use Rattle.spec_syntax.specs.Rules.{Rules, symbol, rule_name, is_same_name, are_names_distinct, is_spec, all_nodes}
+use Rattle.spec_syntax.specs.Rules.{Rules, symbol, rule_name, is_spec, all_nodes}
 use Rattle.spec_syntax.specs.Grammar.{Grammar}
-use Rattle.spec_syntax.proofs.RulesLemmas.{distinct-from_spec, all_nodes-from_spec, symbol-within}
+use Rattle.spec_syntax.proofs.RulesLemmas.{all_nodes-from_spec, symbol-within}
+use Rattle.spec_syntax.proofs.RuleNames.{symbol_own, name_found}
 use Rattle.lists.specs.Enumeration.{IsIn}
+use Rattle.lists.proofs.Places.{in_of_get, get_of_in}
+use Rattle.lists.proofs.Positions.{found_at, not_found, slice_some}
 use Rattle.well_founded.specs.declared.refused.Refused.TheVariants.{CycleUnlabelled, Unproductive, NullElement, Endless}
-use Rattle.well_founded.specs.Names.{name_without_rule, undefined_name}
+use Rattle.well_founded.specs.Names.{name_without_rule, symbol_without_rule, undefined_name}
 use Rattle.well_founded.specs.Sizes.{IsProductive, IsLeast, no_least}
-use Rattle.well_founded.specs.Least.{IsSize, AreSizes, least_with, size_of_name, least_by, leasts_of}
+use Rattle.well_founded.specs.Least.{IsSize, least_with, size_of_name, least_by, leasts_of}
 use Rattle.spec_syntax.specs.Nodes.{node_at, right_node}
 use Rattle.spec_syntax.specs.Nodes.{all_right_nodes}
-use Rattle.graphs.specs.Graph.{Graph, Leads, IsGraph, AreCounts}
+use Rattle.graphs.specs.Graph.{Graph, Leads, IsGraph, AreCounts, IsFirstRound, IsNoRound}
 use Rattle.well_founded.specs.SameSize.{same_size_graph}
 use Rattle.well_founded.specs.Containers.{is_allowed, is_without_null}
-use Rattle.well_founded.specs.Search.{IsFirstRound, IsNoRound}
-use Rattle.well_founded.specs.Rank.{AreRanks}
+use Rattle.well_founded.specs.Sized.{IsSized, IsAllButFinite}
 use Rattle.well_founded.specs.Checked.{IsChecked, AreLeasts}
-use Rattle.well_founded.specs.WellFounded.{may_hold_cycles, HoldsItself, OfRule, HoldsCycle, HasNoStructure, HoldsNull, IsEndless, OfNone, IsFirst, IsEachProductive, IsWellFounded, IsCulprit}
-use Rattle.lists.proofs.Places.{in_of_get, get_of_in}
+use Rattle.well_founded.specs.WellFounded.{may_hold_cycles, HoldsItself, OfRule, HoldsCycle, HasNoStructure, HoldsNull, IsEndless, OfNone, IsFirst, IsEachProductive, IsCulprit}
 use Rattle.well_founded.proofs.CyclesLaws.{name_allowed, rule_allowed, node_allowed}
 use Rattle.spec_syntax.proofs.NodesLemmas.{get-all_right_nodes, length-all_right_nodes}
 use Rattle.well_founded.proofs.NodeTables.{length-right_table, table_right_within}
 use Rattle.well_founded.proofs.EndlessLaws.{endless_is}
 use Rattle.well_founded.proofs.RankLaws.{graph-length, is_graph, are_ranks}
-use Rattle.well_founded.proofs.CheckExists.{same_name, null_where, no_null_where}
+use Rattle.well_founded.proofs.CheckExists.{null_where, no_null_where}
 
-pub slice_some : {X : Type 0} (xs : List X) (i : ℕ) → i < length xs → (x : X) × (slice_get xs i ≡ Some x)
-slice_some [] i h = absurd (omega arith)
-slice_some (x ∷ xs) zero h = (x, refl)
-slice_some (x ∷ xs) (suc i) h = slice_some xs i (omega arith)
-
--- what is read within a list doesn't depend on the default
-get_or_any : {X : Type 0} (xs : List X) (i : ℕ) (d e : X) → i < length xs → get_or xs i d ≡ get_or xs i e
-get_or_any xs i d e h = same_Some (get_or xs i d) (get_or xs i e) (sym (slice_get-get_or xs i d h) ∙ slice_get-get_or xs i e h)
-
-abbrev Rule : Type 0
+abbrev pub Rule : Type 0
 Rule = List ℕ × Expression
 
 -- the rule at a place is the first of which something is said, where it isn't said of those before it
-pub first_at : (P : OfRule) (rules : Rules) (i : ℕ) (rule : List ℕ × Expression) → slice_get rules i ≡ Some rule → P rule.0 rule.1
-    → ((j : ℕ) (other : List ℕ × Expression) → j < i → slice_get rules j ≡ Some other → P other.0 other.1 → ⊥) → IsFirst P rules rule.0
+pub first_at : (P : OfRule) (rules : Rules) (i : ℕ) (rule : Rule) → slice_get rules i ≡ Some rule → P rule.0 rule.1
+    → ((j : ℕ) (other : Rule) → j < i → slice_get rules j ≡ Some other → P other.0 other.1 → ⊥) → IsFirst P rules rule.0
 first_at P [] i rule at holds before = absurd (cc)
 first_at P (head ∷ rules) zero rule at holds before =
     let same : head ≡ rule = cc in
@@ -68,122 +58,58 @@ first_at P (head ∷ rules) (suc i) rule at holds before =
     }
   where
     none : (name : List ℕ) (right : Expression) (earlier : Rules) → IsIn (name, right) (head ∷ earlier) → P name right → OfNone P earlier → ⊥
-    none name right earlier (inl same) said others = before 0 head (omega arith) refl (subst (λ (r : List ℕ × Expression). P r.0 r.1) same said)
+    none name right earlier (inl same) said others = before 0 head (omega arith) refl (subst (λ (r : Rule). P r.0 r.1) same said)
     none name right earlier (inr there) said others = others name right there said
+
+-- the test passes the rules of which something is said
+pub record Tells (P : OfRule) (test : Rule → Bool) (rules : Rules) : Type 0 where
+  pub holds : (name : List ℕ) (right : Expression) → IsIn (name, right) rules → test (name, right) ≡ true → P name right
+  pub fails : (name : List ℕ) (right : Expression) → IsIn (name, right) rules → test (name, right) ≡ false → P name right → ⊥
+
+-- the rule that a search by the test stops at is the first
+first_found : (P : OfRule) (test : Rule → Bool) (rules : Rules) (number : ℕ) (name : List ℕ) → Tells P test rules → position_from test 1 rules ≡ Some number → name ≡ rule_name rules number → IsFirst P rules name
+first_found P test rules number name tells found is =
+    let at = found_at test rules 1 number found in
+    subst (IsFirst P rules) (sym (is ∙ name_found rules at.i number at.x (next at.i at.number) at.at))
+    (first_at P rules at.i at.x at.at (tells.holds at.x.0 at.x.1 (in_of_get rules at.i at.x at.at) at.passes)
+    (λ j other less there said. tells.fails other.0 other.1 (in_of_get rules j other there) (at.before j other less there) said))
+  where
+    next : (i : ℕ) → 1 + i ≡ number → i + 1 ≡ number
+    next i same = omega arith
+
+-- and where it stops at none, it is said of none
+none_found : (P : OfRule) (test : Rule → Bool) (rules : Rules) → Tells P test rules → position_from test 1 rules ≡ None → OfNone P rules
+none_found P test rules tells none name right there said =
+    let at = get_of_in rules (name, right) there in
+    tells.fails name right there (not_found test rules 1 at.0 (name, right) none at.1) said
 
 -- ---- names
 
-true_not : (b : Bool) → not b ≡ true → b ≡ false
-true_not true h = absurd (true≢false (sym h))
-true_not false h = refl
-
-not_true : (b : Bool) → not b ≡ false → b ≡ true
-not_true true h = refl
-not_true false h = absurd (true≢false h)
-
-any_false : {X : Type 0} (test : X → Bool) (xs : List X) (i : ℕ) (x : X) → list_any test xs ≡ false → slice_get xs i ≡ Some x → test x ≡ false
-any_false test [] i x none at = absurd (cc)
-any_false test (y ∷ ys) zero x none at = let same : y ≡ x = cc in ap test (sym same) ∙ first (test y) (list_any test ys) none
+-- where no name is undefined, each name in the rules has one
+pub no_undefined : (rules : Rules) (given : Option (List ℕ)) → undefined_name rules given ≡ None → name_without_rule rules ≡ None
+no_undefined rules given h = by (name_without_rule rules) h
   where
-    first : (a b : Bool) → (a || b) ≡ false → a ≡ false
-    first true b h = absurd (true≢false h)
-    first false b h = refl
-any_false test (y ∷ ys) (suc i) x none at = any_false test ys i x (second (test y) (list_any test ys) none) at
-  where
-    second : (a b : Bool) → (a || b) ≡ false → b ≡ false
-    second true b h = absurd (true≢false h)
-    second false b h = h
+    by : (first : Option (List ℕ)) → option_or first (symbol_without_rule rules given) ≡ None → first ≡ None
+    by None h = refl
+    by (Some name) h = absurd (cc)
 
--- names that are not the same one way are not the other way
-other_name : (one other : List ℕ) → is_same_name other one ≡ false → is_same_name one other ≡ false
-other_name one other differ = by (is_same_name one other) refl
-  where
-    by : (b : Bool) → is_same_name one other ≡ b → is_same_name one other ≡ false
-    by false is = is
-    by true is = absurd (true≢false (sym (same_name one) ∙ ap (λ (name : List ℕ). is_same_name name one) (same_text one other (sym is)) ∙ differ))
+-- ---- Cycles
 
-own_from : (rules : Rules) (first i : ℕ) (rule : List ℕ × Expression) → are_names_distinct rules ≡ true → slice_get rules i ≡ Some rule
-    → position_from (λ other. is_same_name other.0 rule.0) first rules ≡ Some (first + i)
-own_from [] first i rule distinct at = absurd (cc)
-own_from (head ∷ rules) first zero rule distinct at =
-    let same : head ≡ rule = cc in
-    ap (λ (b : Bool). cond b (Some first) (position_from (λ other. is_same_name other.0 rule.0) (first + 1) rules))
-    (ap (λ (r : List ℕ × Expression). is_same_name r.0 rule.0) same ∙ same_name rule.0)
-    ∙ ap Some (number first)
-  where
-    number : (n : ℕ) → n ≡ n + 0
-    number n = omega arith
-own_from (head ∷ rules) first (suc i) rule distinct at =
-    let both = and_parts (not (list_any (λ other. is_same_name other.0 head.0) rules)) (are_names_distinct rules) distinct in
-    ap (λ (b : Bool). cond b (Some first) (position_from (λ other. is_same_name other.0 rule.0) (first + 1) rules))
-    (other_name head.0 rule.0 (any_false (λ other. is_same_name other.0 head.0) rules i rule (true_not (list_any (λ other. is_same_name other.0 head.0) rules) both.0) at))
-    ∙ own_from rules (first + 1) i rule both.1 at
-    ∙ ap Some (number first i)
-  where
-    number : (n m : ℕ) → n + 1 + m ≡ n + suc m
-    number n m = omega arith
+cycles_told : (g : Grammar) → Tells (HoldsCycle g) (λ rule. not (is_allowed g.universe rule.1)) g.rules
+cycles_told g = record {
+  holds = λ name right there passes. not-true (is_allowed g.universe right) passes;
+  fails = λ name right there fails holds. true≢false (sym (not-false (is_allowed g.universe right) fails) ∙ holds);
+}
 
--- the number of a rule is found by its name
-pub symbol_own : (rules : Rules) (i : ℕ) (rule : List ℕ × Expression) → IsTrue (is_spec rules) → slice_get rules i ≡ Some rule → symbol rules rule.0 ≡ Some (suc i)
-symbol_own rules i rule spec at = own_from rules 1 i rule (distinct-from_spec rules spec) at ∙ ap Some (number i)
-  where
-    number : (n : ℕ) → 1 + n ≡ suc n
-    number n = omega arith
+-- the rule with a Cycle that is found is refused
+pub cycle_said : (g : Grammar) (number : ℕ) (name : List ℕ) → position_from (λ rule. not (is_allowed g.universe rule.1)) 1 g.rules ≡ Some number → name ≡ rule_name g.rules number
+    → (given : Option (List ℕ)) → undefined_name g.rules given ≡ None → IsCulprit g given (CycleUnlabelled name)
+cycle_said g number name found is given named = (named, first_found (HoldsCycle g) (λ rule. not (is_allowed g.universe rule.1)) g.rules number name (cycles_told g) found is)
 
-without_rule : (rules : Rules) → name_without_rule rules ≡ None → undefined_name rules None ≡ None
-without_rule rules none = ap (λ (o : Option (List ℕ)). option_or o None) none
+pub none_with_cycle : (g : Grammar) → position_from (λ rule. not (is_allowed g.universe rule.1)) 1 g.rules ≡ None → OfNone (HoldsCycle g) g.rules
+none_with_cycle g none = none_found (HoldsCycle g) (λ rule. not (is_allowed g.universe rule.1)) g.rules (cycles_told g) none
 
 -- ---- sizes
-
-module _ {X : Type 0} (test : X → Bool) where
-  -- the place at which a search stops
-  record IsFound (xs : List X) (first n : ℕ) : Type 0 where
-    i : ℕ
-    x : X
-    number : first + i ≡ n
-    at : slice_get xs i ≡ Some x
-    passes : test x ≡ true
-    before : (j : ℕ) (y : X) → j < i → slice_get xs j ≡ Some y → test y ≡ false
-
-  found_at : (xs : List X) (first n : ℕ) → position_from test first xs ≡ Some n → IsFound xs first n
-  found_at [] first n found = absurd (cc)
-  found_at (x ∷ xs) first n found = by (test x) refl found (λ later. found_at xs (first + 1) n later)
-    where
-      passed : test x ≡ false → (i j : ℕ) (y : X) → ((k : ℕ) (z : X) → k < i → slice_get xs k ≡ Some z → test z ≡ false) → j < suc i → slice_get (x ∷ xs) j ≡ Some y → test y ≡ false
-      passed fails i zero y before less at = let same : x ≡ y = cc in ap test (sym same) ∙ fails
-      passed fails i (suc j) y before less at = before j y (omega (arith, less)) at
-
-      by : (b : Bool) → test x ≡ b → cond b (Some first) (position_from test (first + 1) xs) ≡ Some n → (position_from test (first + 1) xs ≡ Some n → IsFound xs (first + 1) n)
-          → IsFound (x ∷ xs) first n
-      by true told found later =
-          let same : first ≡ n = cc in
-          record { i = 0; x = x; number = omega (arith, same); at = refl; passes = told; before = λ j y less at. absurd (omega (arith, less)) }
-      by false told found later =
-          let rest = later found in
-          record {
-            i = suc rest.i;
-            x = rest.x;
-            number = omega (arith, rest.number);
-            at = rest.at;
-            passes = rest.passes;
-            before = λ j y less at. passed told rest.i j y rest.before less at;
-          }
-
-  not_found : (xs : List X) (first i : ℕ) (x : X) → position_from test first xs ≡ None → slice_get xs i ≡ Some x → test x ≡ false
-  not_found [] first i x none at = absurd (cc)
-  not_found (y ∷ ys) first i x none at = by (test y) refl none i at (λ later. not_found ys (first + 1) later x)
-    where
-      by : (b : Bool) → test y ≡ b → cond b (Some first) (position_from test (first + 1) ys) ≡ None → (i : ℕ) → slice_get (y ∷ ys) i ≡ Some x
-          → ((j : ℕ) → position_from test (first + 1) ys ≡ None → slice_get ys j ≡ Some x → test x ≡ false) → test x ≡ false
-      by true told none i at later = absurd (cc)
-      by false told none zero at later = let same : y ≡ x = cc in ap test (sym same) ∙ told
-      by false told none (suc j) at later = later j none at
-
--- a rule that is found has a number
-pub number_within : (test : List ℕ × Expression → Bool) (rules : Rules) (n : ℕ) → position_from test 1 rules ≡ Some n → (1 ≤ n) × (n ≤ length rules)
-number_within test rules n found =
-    let at = found_at test rules 1 n found in
-    (omega (arith, at.number), omega (arith, at.number, slice_get_within rules at.i at.x at.at))
 
 none_is : (entry : Option ℕ) → is_none entry ≡ true → entry ≡ None
 none_is None h = refl
@@ -203,60 +129,20 @@ position_some table place found =
       λ j entry less there is. some_is entry (from.before j entry (omega (arith, less, number)) there) is,
     )
 
-name_found : (rules : Rules) (i number : ℕ) (rule : List ℕ × Expression) → 1 + i ≡ number → slice_get rules i ≡ Some rule → rule_name rules number ≡ rule.0
-name_found rules i number rule same at =
-    ap (rule_name rules) (sym (next i number same)) ∙ ap (λ (o : Option (List ℕ × Expression)). unwrap_or (option_map (λ (r : List ℕ × Expression). r.0) o) []) at
-  where
-    next : (j k : ℕ) → 1 + j ≡ k → suc j ≡ k
-    next j k h = omega (arith, h)
-
--- ---- containers
-
--- the rule with a Cycle that is found is refused
-pub cycle_said : (rules : Rules) (universe : Universe) (number : ℕ) (name : List ℕ) → position_from (λ rule. not (is_allowed universe rule.1)) 1 rules ≡ Some number
-    → name ≡ rule_name rules number → (given : Option (List ℕ)) → undefined_name rules given ≡ None
-    → IsCulprit (record { rules = rules; universe = universe }) given (CycleUnlabelled name)
-cycle_said rules universe number name found is given named =
-    let first = found_at (λ rule. not (is_allowed universe rule.1)) rules 1 number found in (
-      named,
-      subst (IsFirst (HoldsCycle (record { rules = rules; universe = universe })) rules) (sym (is ∙ name_found rules first.i number first.x first.number first.at))
-          (first_at (HoldsCycle (record { rules = rules; universe = universe })) rules first.i first.x first.at (true_not (is_allowed universe first.x.1) first.passes)
-          (λ j other less at holds. true≢false (sym (not_true (is_allowed universe other.1) (first.before j other less at)) ∙ holds))),
-    )
-
-pub none_with_cycle : (rules : Rules) (universe : Universe) → position_from (λ rule. not (is_allowed universe rule.1)) 1 rules ≡ None
-    → OfNone (HoldsCycle (record { rules = rules; universe = universe })) rules
-none_with_cycle rules universe none name right there holds =
-    let at = get_of_in rules (name, right) there in
-    true≢false (sym (not_true (is_allowed universe right) (not_found (λ rule. not (is_allowed universe rule.1)) rules 1 at.0 (name, right) none at.1)) ∙ holds)
-
--- an entry for each rule
-entry_of : (rules : Rules) (table : List (Option ℕ)) (i : ℕ) (rule : List ℕ × Expression) → length table ≡ length rules → slice_get rules i ≡ Some rule → (entry : Option ℕ) × (slice_get table i ≡ Some entry)
-entry_of [] table i rule same at = absurd (cc)
-entry_of (head ∷ rules) [] i rule same at = absurd (omega (arith, same))
-entry_of (head ∷ rules) (entry ∷ table) zero rule same at = (entry, refl)
-entry_of (head ∷ rules) (entry ∷ table) (suc i) rule same at = entry_of rules table i rule (omega (arith, same)) at
-
-rule_of : (rules : Rules) (table : List (Option ℕ)) (i : ℕ) (entry : Option ℕ) → length table ≡ length rules → slice_get table i ≡ Some entry → (rule : List ℕ × Expression) × (slice_get rules i ≡ Some rule)
-rule_of rules [] i entry same at = absurd (cc)
-rule_of [] (head ∷ table) i entry same at = absurd (omega (arith, same))
-rule_of (rule ∷ rules) (head ∷ table) zero entry same at = (rule, refl)
-rule_of (rule ∷ rules) (head ∷ table) (suc i) entry same at = rule_of rules table i entry (omega (arith, same)) at
-
-module _ (rules : Rules) (universe : Universe) (table : List (Option ℕ)) (allows : OfNone (HoldsCycle (record { rules = rules; universe = universe })) rules) (spec : IsTrue (is_spec rules))
-    (sized : AreSizes rules table) where
-  abbrev g : Grammar
-  g = record { rules = rules; universe = universe }
-
+module _ (g : Grammar) (table : List (Option ℕ)) (sized : IsSized g table) where
   abbrev sizes : Expression → Option ℕ
-  sizes = least_with (size_of_name rules table)
+  sizes = least_with (size_of_name g.rules table)
 
   size_is : (e : Expression) → may_hold_cycles g e ≡ true → IsSize g e (sizes e)
-  size_is e allowed = sized.each universe e allows allowed
+  size_is e allowed = sized.sizes.each g.universe e sized.no_cycles allowed
 
-  entry_size : (i : ℕ) (rule : List ℕ × Expression) (entry : Option ℕ) → slice_get rules i ≡ Some rule → slice_get table i ≡ Some entry → sizes (expr.Name rule.0) ≡ entry
+  -- an entry for each rule
+  entry_of : (i : ℕ) (rule : Rule) → slice_get g.rules i ≡ Some rule → (entry : Option ℕ) × (slice_get table i ≡ Some entry)
+  entry_of i rule at = let within = slice_get_within g.rules i rule at in slice_some table i (omega (arith, within, sized.sizes.for_each))
+
+  entry_size : (i : ℕ) (rule : Rule) (entry : Option ℕ) → slice_get g.rules i ≡ Some rule → slice_get table i ≡ Some entry → sizes (expr.Name rule.0) ≡ entry
   entry_size i rule entry at there =
-      ap (λ (number : Option ℕ). option_map_or (λ n. unwrap_or (slice_get table (n - 1)) None) number None) (symbol_own rules i rule spec at)
+      ap (λ (number : Option ℕ). option_map_or (λ n. unwrap_or (slice_get table (n - 1)) None) number None) (symbol_own g.rules i rule sized.spec at)
       ∙ ap (λ (j : ℕ). unwrap_or (slice_get table j) None) (number i)
       ∙ ap (λ (o : Option (Option ℕ)). unwrap_or o None) there
     where
@@ -264,167 +150,150 @@ module _ (rules : Rules) (universe : Universe) (table : List (Option ℕ)) (allo
       number n = omega arith
 
   -- what the table says of a rule
-  pub rule_size : (i : ℕ) (rule : List ℕ × Expression) (entry : Option ℕ) → slice_get rules i ≡ Some rule → slice_get table i ≡ Some entry → IsSize g (expr.Name rule.0) entry
+  rule_size : (i : ℕ) (rule : Rule) (entry : Option ℕ) → slice_get g.rules i ≡ Some rule → slice_get table i ≡ Some entry → IsSize g (expr.Name rule.0) entry
   rule_size i rule entry at there = subst (λ (size : Option ℕ). IsSize g (expr.Name rule.0) size) (entry_size i rule entry at there) (size_is (expr.Name rule.0) (name_allowed g rule.0))
 
-  productive_at : (i : ℕ) (rule : List ℕ × Expression) (entry : Option ℕ) → slice_get rules i ≡ Some rule → slice_get table i ≡ Some entry → (entry ≡ None → ⊥) → IsProductive g (expr.Name rule.0)
+  productive_at : (i : ℕ) (rule : Rule) (entry : Option ℕ) → slice_get g.rules i ≡ Some rule → slice_get table i ≡ Some entry → (entry ≡ None → ⊥) → IsProductive g (expr.Name rule.0)
   productive_at i rule None at there some = absurd (some refl)
   productive_at i rule (Some n) at there some = (rule_size i rule (Some n) at there).0
 
   -- where no entry is none, each rule has a structure
   pub each_productive : position is_none table ≡ None → IsEachProductive g
   each_productive none name right there =
-      let found = get_of_in rules (name, right) there in
-      let entry = entry_of rules table found.0 (name, right) sized.for_each found.1 in
+      let found = get_of_in g.rules (name, right) there in
+      let entry = entry_of found.0 (name, right) found.1 in
       productive_at found.0 (name, right) entry.0 found.1 entry.1 (position_none table none found.0 entry.0 entry.1)
 
-  -- the first entry that is none is that of the first rule without a structure
-  pub first_unproductive : (place : ℕ) (rule : List ℕ × Expression) → position is_none table ≡ Some place → slice_get rules place ≡ Some rule → IsFirst (HasNoStructure g) rules rule.0
-  first_unproductive place rule found at =
+  -- the first entry that is none is that of the first rule without a structure, which is refused
+  pub unproductive_said : (place : ℕ) (name : List ℕ) → position is_none table ≡ Some place → name ≡ rule_name g.rules (place + 1)
+      → (given : Option (List ℕ)) → undefined_name g.rules given ≡ None → IsCulprit g given (Unproductive name)
+  unproductive_said place name found is given named =
       let where_none = position_some table place found in
-      first_at (HasNoStructure g) rules place rule at (rule_size place rule None at where_none.0)
-      (λ j other less at_j none.
-      let entry = entry_of rules table j other sized.for_each at_j in
-      none (productive_at j other entry.0 at_j entry.1 (where_none.1 j entry.0 less entry.1)))
-
-  -- the rule with a container over one that can be empty that is found is refused
-  pub null_said : IsEachProductive g → (number : ℕ) (name : List ℕ) → position_from (λ rule. not (is_without_null sizes rule.1)) 1 rules ≡ Some number → name ≡ rule_name rules number
-      → (given : Option (List ℕ)) → undefined_name rules given ≡ None → IsCulprit g given (NullElement name)
-  null_said productive number name found is given named =
-      let first = found_at (λ rule. not (is_without_null sizes rule.1)) rules 1 number found in (
+      let within = slice_get_within table place None where_none.0 in
+      let rule = slice_some g.rules place (omega (arith, within, sized.sizes.for_each)) in (
         named,
-        allows,
-        productive,
-        subst (IsFirst (HoldsNull g) rules) (sym (is ∙ name_found rules first.i number first.x first.number first.at))
-            (first_at (HoldsNull g) rules first.i first.x first.at
-            (null_where g sizes size_is first.x.1 (rule_allowed g first.x.0 first.x.1 allows (in_of_get rules first.i first.x first.at)) (true_not (is_without_null sizes first.x.1) first.passes))
-            (λ j other less at.
-            no_null_where g sizes size_is other.1 (rule_allowed g other.0 other.1 allows (in_of_get rules j other at)) (not_true (is_without_null sizes other.1) (first.before j other less at)))),
+        sized.no_cycles,
+        subst (IsFirst (HasNoStructure g) g.rules) (sym (is ∙ name_found g.rules place (place + 1) rule.0 refl rule.1))
+            (first_at (HasNoStructure g) g.rules place rule.0 rule.1 (rule_size place rule.0 None rule.1 where_none.0)
+            (λ j other less at_j none.
+            let entry = entry_of j other at_j in
+            none (productive_at j other entry.0 at_j entry.1 (where_none.1 j entry.0 less entry.1)))),
       )
 
-  pub none_over_null : position_from (λ rule. not (is_without_null sizes rule.1)) 1 rules ≡ None → OfNone (HoldsNull g) rules
-  none_over_null none name right there =
-      let at = get_of_in rules (name, right) there in
-      no_null_where g sizes size_is right (rule_allowed g name right allows there)
-      (not_true (is_without_null sizes right) (not_found (λ rule. not (is_without_null sizes rule.1)) rules 1 at.0 (name, right) none at.1))
+  -- ---- containers over one that can be empty
 
-  -- ---- the graph
+  nulls_told : Tells (HoldsNull g) (λ rule. not (is_without_null sizes rule.1)) g.rules
+  nulls_told = record {
+    holds = λ name right there passes. null_where g sizes size_is right (rule_allowed g name right sized.no_cycles there) (not-true (is_without_null sizes right) passes);
+    fails = λ name right there fails. no_null_where g sizes size_is right (rule_allowed g name right sized.no_cycles there) (not-false (is_without_null sizes right) fails);
+  }
 
-  abbrev graph : Graph
-  graph = same_size_graph rules sizes
+  pub null_said : IsEachProductive g → (number : ℕ) (name : List ℕ) → position_from (λ rule. not (is_without_null sizes rule.1)) 1 g.rules ≡ Some number → name ≡ rule_name g.rules number
+      → (given : Option (List ℕ)) → undefined_name g.rules given ≡ None → IsCulprit g given (NullElement name)
+  null_said productive number name found is given named =
+      (named, sized.no_cycles, productive, first_found (HoldsNull g) (λ rule. not (is_without_null sizes rule.1)) g.rules number name nulls_told found is)
 
-  pub graph_is : IsGraph graph
-  graph_is = is_graph g sizes
+  pub none_over_null : position_from (λ rule. not (is_without_null sizes rule.1)) 1 g.rules ≡ None → OfNone (HoldsNull g) g.rules
+  none_over_null none = none_found (HoldsNull g) (λ rule. not (is_without_null sizes rule.1)) g.rules nulls_told none
 
-  pub graph_nodes : length graph ≡ length (all_nodes rules)
-  graph_nodes = graph-length g sizes
-
-  pub graph_few : length graph ≤ 128
-  graph_few = omega (arith, graph-length g sizes, all_nodes-from_spec rules spec)
-
-  root_at : (i : ℕ) (rule : List ℕ × Expression) → slice_get rules i ≡ Some rule → slice_get (all_right_nodes rules) i ≡ Some (right_node rules (suc i))
-  root_at i rule at = get-all_right_nodes rules i (slice_get_within rules i rule at)
-
-  module _ (productive : IsEachProductive g) (full : OfNone (HoldsNull g) rules) where
-    way : (i : ℕ) (rule : List ℕ × Expression) → slice_get rules i ≡ Some rule → HoldsItself g rule.0 ↔ Leads graph (right_node rules (suc i)) (right_node rules (suc i))
-    way i rule at = endless_is g sizes allows size_is full rule.0 (suc i) (symbol_own rules i rule spec at) (productive rule.0 rule.1 (in_of_get rules i rule at))
-
-    -- the first root that leads to itself is that of the first rule that holds itself
-    pub first_endless : (place : ℕ) (rule : List ℕ × Expression) → IsFirstRound graph (all_right_nodes rules) place → slice_get rules place ≡ Some rule → IsFirst (IsEndless g) rules rule.0
-    first_endless place rule found at =
-        let root : found.root ≡ right_node rules (suc place) = same_Some found.root (right_node rules (suc place)) (sym found.at ∙ root_at place rule at) in
-        first_at (IsEndless g) rules place rule at ((way place rule at).1 (subst (λ (r : ℕ). Leads graph r r) root found.leads))
-        (λ j other less at_j holds. found.before j (right_node rules (suc j)) less (root_at j other at_j) ((way j other at_j).0 holds))
-
-    pub none_endless : IsNoRound graph (all_right_nodes rules) → OfNone (IsEndless g) rules
-    none_endless none name right there holds =
-        let found = get_of_in rules (name, right) there in
-        none found.0 (right_node rules (suc found.0)) (root_at found.0 (name, right) found.1) ((way found.0 (name, right) found.1).0 holds)
-
-    -- then the grammar passes
-    pub passes : name_without_rule rules ≡ None → IsNoRound graph (all_right_nodes rules) → IsWellFounded g
-    passes named none = record {
-      named = without_rule rules named;
-      no_cycles = allows;
-      productive = productive;
-      no_null_elements = full;
-      finite = none_endless none;
-    }
-
-    pub ranked : (counts : List ℕ) → IsNoRound graph (all_right_nodes rules) → AreCounts graph counts → AreRanks g counts
-    ranked counts none counted = are_ranks g sizes allows size_is productive (none_endless none) full counts counted
+  -- ---- the least sizes of the nodes
 
   least_when : (e : Expression) (size : Option ℕ) → IsSize g e size → IsLeast g e (unwrap_or size no_least)
   least_when e None none = inr (refl, λ s of. absurd (none (s, of)))
   least_when e (Some n) some = some.1
 
-  -- the least sizes of the nodes
-  pub are_leasts : AreLeasts g (leasts_of rules table)
-  are_leasts = record { for_each = length-map (all_nodes rules) (least_by rules table); each = λ n l e at there. each n l e at there }
+  are_leasts : AreLeasts g (leasts_of g.rules table)
+  are_leasts = record { for_each = length-map (all_nodes g.rules) (least_by g.rules table); each = λ n l e at there. each n l e at there }
     where
-      each : (n l : ℕ) (e : Expression) → node_at rules n ≡ Some e → slice_get (leasts_of rules table) n ≡ Some l → IsLeast g e l
+      each : (n l : ℕ) (e : Expression) → node_at g.rules n ≡ Some e → slice_get (leasts_of g.rules table) n ≡ Some l → IsLeast g e l
       each n l e at there =
-          let same : least_by rules table e ≡ l =
-          same_Some (least_by rules table e) l (sym (slice_get-map (least_by rules table) (all_nodes rules) n ∙ ap (option_map (least_by rules table)) at) ∙ there) in
-          subst (IsLeast g e) same (least_when e (sizes e) (size_is e (node_allowed g n e allows at)))
+          let same : least_by g.rules table e ≡ l =
+          same_Some (least_by g.rules table e) l (sym (slice_get-map (least_by g.rules table) (all_nodes g.rules) n ∙ ap (option_map (least_by g.rules table)) at) ∙ there) in
+          subst (IsLeast g e) same (least_when e (sizes e) (size_is e (node_allowed g n e sized.no_cycles at)))
 
-  -- the least size of a rule that has a structure
-  pub rule_least : (i : ℕ) (rule : List ℕ × Expression) (entry : Option ℕ) → slice_get rules i ≡ Some rule → slice_get table i ≡ Some entry → IsLeast g (expr.Name rule.0) (unwrap_or entry no_least)
-  rule_least i rule entry at there = least_when (expr.Name rule.0) entry (rule_size i rule entry at there)
+-- ---- the graph
 
-  -- ---- what is said
+module _ (g : Grammar) (table : List (Option ℕ)) where
+  abbrev pub graph : Graph
+  graph = same_size_graph g.rules (least_with (size_of_name g.rules table))
 
-  some_rule : (place : ℕ) → place < length rules → (rule : List ℕ × Expression) × (slice_get rules place ≡ Some rule)
-  some_rule place within = slice_some rules place within
+  pub graph_is : IsGraph graph
+  graph_is = is_graph g (least_with (size_of_name g.rules table))
 
-  name_at : (place : ℕ) (rule : List ℕ × Expression) → slice_get rules place ≡ Some rule → rule_name rules (place + 1) ≡ rule.0
-  name_at place rule at = ap (rule_name rules) (add-one place) ∙ ap (λ (o : Option (List ℕ × Expression)). unwrap_or (option_map (λ (r : List ℕ × Expression). r.0) o) []) at
+  pub graph_nodes : length graph ≡ length (all_nodes g.rules)
+  graph_nodes = graph-length g (least_with (size_of_name g.rules table))
 
-  pub position_within : (place : ℕ) → position is_none table ≡ Some place → place < length rules
-  position_within place found = omega (arith, slice_get_within table place None (position_some table place found).0, sized.for_each)
+  pub graph_few : IsTrue (is_spec g.rules) → length graph ≤ 128
+  graph_few spec = omega (arith, graph_nodes, all_nodes-from_spec g.rules spec)
 
-  pub round_within : (place : ℕ) → IsFirstRound graph (all_right_nodes rules) place → place < length rules
-  round_within place found = omega (arith, slice_get_within (all_right_nodes rules) place found.root found.at, length-all_right_nodes rules)
+  root_at : (i : ℕ) (rule : Rule) → slice_get g.rules i ≡ Some rule → slice_get (all_right_nodes g.rules) i ≡ Some (right_node g.rules (suc i))
+  root_at i rule at = get-all_right_nodes g.rules i (slice_get_within g.rules i rule at)
 
-  pub endless_said : (productive : position is_none table ≡ None) (full : OfNone (HoldsNull g) rules) (place : ℕ) (name : List ℕ) (n : ℕ) (entry : Option ℕ) → IsFirstRound graph (all_right_nodes rules) place
-      → name ≡ rule_name rules (place + 1) → slice_get table place ≡ Some entry → n ≡ unwrap_or entry no_least
-      → (given : Option (List ℕ)) → undefined_name rules given ≡ None → IsCulprit g given (Endless name n)
-  endless_said productive full place name n entry found is there size given named =
-      let rule = some_rule place (round_within place found) in
-      let same : rule.0.0 ≡ name = sym (is ∙ name_at place rule.0 rule.1) in
-      let each = each_productive productive in (
-        named,
-        allows,
-        each,
-        full,
-        subst (IsFirst (IsEndless g) rules) same (first_endless each full place rule.0 found rule.1),
-        subst (λ (m : ℕ). IsLeast g (expr.Name name) m) (sym size) (subst (λ (own : List ℕ). IsLeast g (expr.Name own) (unwrap_or entry no_least)) same (rule_least place rule.0 entry rule.1 there)),
-      )
+  pub round_within : (place : ℕ) → IsFirstRound graph (all_right_nodes g.rules) place → place < length g.rules
+  round_within place found = omega (arith, slice_get_within (all_right_nodes g.rules) place found.node found.at, length-all_right_nodes g.rules)
 
-  pub unproductive_said : (place : ℕ) (name : List ℕ) → position is_none table ≡ Some place → name ≡ rule_name rules (place + 1)
-      → (given : Option (List ℕ)) → undefined_name rules given ≡ None → IsCulprit g given (Unproductive name)
-  unproductive_said place name found is given named =
-      let rule = some_rule place (position_within place found) in
-      let same : rule.0.0 ≡ name = sym (is ∙ name_at place rule.0 rule.1) in
-      (named, allows, subst (IsFirst (HasNoStructure g) rules) same (first_unproductive place rule.0 found rule.1))
+  module _ (all : IsAllButFinite g table) where
+    sizes_are : (e : Expression) → may_hold_cycles g e ≡ true → IsSize g e (sizes g table all.sized e)
+    sizes_are = size_is g table all.sized
 
-  -- the grammar with its tables passes
-  pub is_checked : position is_none table ≡ None → OfNone (HoldsNull g) rules → name_without_rule rules ≡ None → IsNoRound graph (all_right_nodes rules) → (start : Option ℕ) (counts : List ℕ)
-      → IfSome start (λ number. (1 ≤ number) × (number ≤ length rules)) → AreCounts graph counts
-      → IsChecked (record { rules = rules; universe = universe; start = start; leasts = leasts_of rules table; ranks = counts })
-  is_checked productive full named none start counts started counted = record {
-    spec = spec;
-    well_founded = passes (each_productive productive) full named none;
-    least = are_leasts;
-    ranked = ranked (each_productive productive) full counts none counted;
-    started = started;
-  }
+    way : (i : ℕ) (rule : Rule) → slice_get g.rules i ≡ Some rule → HoldsItself g rule.0 ↔ Leads graph (right_node g.rules (suc i)) (right_node g.rules (suc i))
+    way i rule at =
+        endless_is g (least_with (size_of_name g.rules table)) all.sized.no_cycles sizes_are all.no_nulls rule.0 (suc i) (symbol_own g.rules i rule all.sized.spec at)
+        (all.productive rule.0 rule.1 (in_of_get g.rules i rule at))
+
+    -- the first root that leads to itself is that of the first rule that holds itself
+    first_endless : (place : ℕ) (rule : Rule) → IsFirstRound graph (all_right_nodes g.rules) place → slice_get g.rules place ≡ Some rule → IsFirst (IsEndless g) g.rules rule.0
+    first_endless place rule found at =
+        let root : found.node ≡ right_node g.rules (suc place) = same_Some found.node (right_node g.rules (suc place)) (sym found.at ∙ root_at place rule at) in
+        first_at (IsEndless g) g.rules place rule at ((way place rule at).1 (subst (λ (r : ℕ). Leads graph r r) root found.leads))
+        (λ j other less at_j holds. found.before j (right_node g.rules (suc j)) less (root_at j other at_j) ((way j other at_j).0 holds))
+
+    none_endless : IsNoRound graph (all_right_nodes g.rules) → OfNone (IsEndless g) g.rules
+    none_endless none name right there holds =
+        let found = get_of_in g.rules (name, right) there in
+        none found.0 (right_node g.rules (suc found.0)) (root_at found.0 (name, right) found.1) ((way found.0 (name, right) found.1).0 holds)
+
+    -- the rule of the root that is found is refused
+    pub endless_said : (place : ℕ) → IsFirstRound graph (all_right_nodes g.rules) place → (given : Option (List ℕ)) → undefined_name g.rules given ≡ None
+        → IsCulprit g given (Endless (rule_name g.rules (place + 1)) (unwrap_or (get_or table place None) no_least))
+    endless_said place found given named =
+        let within = round_within place found in
+        let rule = slice_some g.rules place within in
+        let same : rule.0.0 ≡ rule_name g.rules (place + 1) = sym (name_found g.rules place (place + 1) rule.0 refl rule.1) in
+        let there : slice_get table place ≡ Some (get_or table place None) = slice_get-get_or table place None (omega (arith, within, all.sized.sizes.for_each)) in
+        let least : IsLeast g (expr.Name rule.0.0) (unwrap_or (get_or table place None) no_least) =
+        least_when g table all.sized (expr.Name rule.0.0) (get_or table place None) (rule_size g table all.sized place rule.0 (get_or table place None) rule.1 there) in (
+          named,
+          all.sized.no_cycles,
+          all.productive,
+          all.no_nulls,
+          subst (IsFirst (IsEndless g) g.rules) same (first_endless place rule.0 found rule.1),
+          subst (λ (own : List ℕ). IsLeast g (expr.Name own) (unwrap_or (get_or table place None) no_least)) same least,
+        )
+
+    -- where there is none, the grammar with its tables passes
+    pub is_checked : IsNoRound graph (all_right_nodes g.rules) → (start : Option ℕ) (counts : List ℕ)
+        → IfSome start (λ number. (1 ≤ number) × (number ≤ length g.rules)) → AreCounts graph counts
+        → IsChecked (record { rules = g.rules; universe = g.universe; start = start; leasts = leasts_of g.rules table; ranks = counts })
+    is_checked none start counts started counted = record {
+      spec = all.sized.spec;
+      well_founded = record {
+        named = ap (λ (o : Option (List ℕ)). option_or o None) all.named;
+        no_cycles = all.sized.no_cycles;
+        productive = all.productive;
+        no_null_elements = all.no_nulls;
+        finite = none_endless none;
+      };
+      least = are_leasts g table all.sized;
+      ranked = are_ranks g (least_with (size_of_name g.rules table)) all.sized.no_cycles sizes_are all.productive (none_endless none) all.no_nulls counts counted;
+      started = started;
+    }
 
 -- each root is a node
 pub roots_within : (rules : Rules) (roots : List ℕ) → roots ≡ all_right_nodes rules → All (λ root. root < length (all_nodes rules)) roots
 roots_within rules roots is k d within =
     table_right_within rules roots is (suc k) (get_or roots k d) (omega arith) (omega (arith, within, length-right_table rules roots is))
-    (get_or_any roots k d (get_or roots k d) within ∙ ap (λ (j : ℕ). get_or roots j (get_or roots k d)) (number k))
+    (get_or_default roots k d (get_or roots k d) within ∙ ap (λ (j : ℕ). get_or roots j (get_or roots k d)) (number k))
   where
     number : (n : ℕ) → n ≡ suc n - 1
     number n = omega arith

@@ -1,7 +1,7 @@
 -- Where no Cycle stands that the universe doesn't allow, none stands in a part or at a node.
-use Rattle.std.proofs.Common.{◌≡◌, ℕ, zero, suc, Bool, true, false, ◌&&◌, ◌||◌, List, [], ◌∷◌, ◌++◌, slice_get, Some, inl, inr, refl, sym, ap, ◌∙◌, subst, true≢false}
+use Rattle.std.proofs.Common.{◌≡◌, ℕ, zero, suc, Bool, true, false, ◌&&◌, ◌||◌, List, ◌++◌, slice_get, Some, inl, inr, refl, sym, ◌∙◌, subst}
 use Rattle.std.specs.List.{list_all}
-use Rattle.std.proofs.lemmas.Bool.{and_parts, and_from}
+use Rattle.std.proofs.lemmas.Bool.{and_parts, true_from_ne_false}
 use Rattle.std.proofs.lemmas.List.Folds.{list_all-append as all-append}
 use Rattle.spec_syntax.specs.declared.expr.Kind.{Kind}
 use Rattle.spec_syntax.specs.declared.expr.Kind.TheVariants as kind
@@ -16,6 +16,7 @@ use Rattle.lists.proofs.Places.{all_pass}
 use Rattle.well_founded.specs.WellFounded.{is_no_cycle, may_hold_cycles, HoldsCycle, OfNone}
 use Rattle.spec_syntax.specs.Nodes.{node_at, right_node}
 use Rattle.lists.proofs.Within.{in_either}
+use Rattle.lists.proofs.Tests.{all_from}
 use Rattle.spec_syntax.proofs.NodesLemmas.{node_stands, all_of_rules, right_node_is}
 
 -- ---- parts
@@ -97,28 +98,11 @@ cycle_labelled g e card h = by (is_labelled g.universe) h
     by true h = refl
     by false h = h
 
--- a list of which not all pass a test has one that fails
-pub one_fails : {X : Type 0} (test : X → Bool) (xs : List X) → list_all test xs ≡ false → (x : X) × IsIn x xs × (test x ≡ false)
-one_fails test [] h = absurd (true≢false h)
-one_fails {X = X} test (x ∷ xs) h = by (test x) refl (one_fails test xs)
-  where
-    by : (b : Bool) → test x ≡ b → (list_all test xs ≡ false → (y : X) × IsIn y xs × (test y ≡ false)) → (y : X) × IsIn y (x ∷ xs) × (test y ≡ false)
-    by false is others = (x, inl refl, is)
-    by true is others = let rest = others (ap (λ b. b && list_all test xs) (sym is) ∙ h) in (rest.0, inr rest.1, rest.2)
-
 -- ---- nodes
-
-not_false : (b : Bool) → (b ≡ false → ⊥) → b ≡ true
-not_false true h = refl
-not_false false h = absurd (h refl)
-
-pub all_from : {X : Type 0} (test : X → Bool) (xs : List X) → ((x : X) → IsIn x xs → test x ≡ true) → list_all test xs ≡ true
-all_from test [] each = refl
-all_from test (x ∷ xs) each = and_from (test x) (list_all test xs) (each x (inl refl)) (all_from test xs (λ y there. each y (inr there)))
 
 -- each right side is allowed
 pub rule_allowed : (g : Grammar) (name : List ℕ) (right : Expression) → OfNone (HoldsCycle g) g.rules → IsIn (name, right) g.rules → may_hold_cycles g right ≡ true
-rule_allowed g name right none there = not_false (may_hold_cycles g right) (none name right there)
+rule_allowed g name right none there = true_from_ne_false (may_hold_cycles g right) (none name right there)
 
 -- and the expression of each node
 pub node_allowed : (g : Grammar) (n : ℕ) (e : Expression) → OfNone (HoldsCycle g) g.rules → node_at g.rules n ≡ Some e → may_hold_cycles g e ≡ true

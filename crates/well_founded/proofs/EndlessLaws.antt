@@ -29,7 +29,7 @@ use Rattle.well_founded.proofs.SetsLaws.{symbol_reading}
 use Rattle.well_founded.proofs.CyclesLaws.{node_allowed}
 use Rattle.well_founded.proofs.ManyLaws.{form_of, many_is, within_stands}
 use Rattle.lists.proofs.Places.{in_of_get, get_of_in}
-use Rattle.graphs.proofs.Reached.{step_leads, leads_step}
+use Rattle.graphs.proofs.Reached.{step_leads, leads_step, last_step}
 use Rattle.well_founded.proofs.LeastRounds.{sizes_exist}
 use Rattle.well_founded.proofs.LeastLaws.{rule_read, name_inside, name_is}
 use Rattle.well_founded.proofs.SameSizeLaws.{IsFull, fills, wraps, no_argument_0, part_size, told}
@@ -270,19 +270,13 @@ module _ (g : Grammar) (sizes : Expression → Option ℕ) (allows : OfNone (Hol
       by expr.Atom place at filled there = absurd (child expr.Atom place at there)
       by (expr.Many kind element card) place at filled there = absurd (child (expr.Many kind element card) place at there)
 
-  last_step : (between i j : ℕ) → LeadsBy graph between i j → (m : ℕ) × ((i ≡ m) ⊎ Leads graph i m) × IsIn j (next graph m)
-  last_step zero i j way = (i, inl refl, way)
-  last_step (suc between) i j way =
-      let rest = last_step between way.0 j way.2 in
-      (rest.0, inr (elim (rest.1) [ inl same ↦ (zero, subst (λ (m : ℕ). IsIn m (next graph i)) same way.1) | inr more ↦ step_leads graph i way.0 rest.0 way.1 more ]), rest.2)
-
   -- where a rule's right side leads back to itself, each structure of the name stands inside another one with the same labels
   pub grow : (name : List ℕ) (r : ℕ) (t : Structure) → symbol g.rules name ≡ Some r → Leads graph (right_node g.rules r) (right_node g.rules r) → IsOf g (expr.Name name) t
       → (s : Structure) × IsOf g (expr.Name name) s × IsInside t s × (labels s ≡ labels t)
   grow name r t numbered way of =
       let right = symbol_right g.rules name r numbered in
       let at = right_node_is g.rules r right.0 right.1 in
-      let last = last_step way.0 (right_node g.rules r) (right_node g.rules r) way.1 in
+      let last = last_step graph (right_node g.rules r) (right_node g.rules r) way in
       let before = into_right last.0 r right.0 right.1 last.2 in
       let of_before : IsOf g (expr.Name before.name) t = same_names g name before.name t (numbered ∙ sym before.numbered) of in
       let wrapped : (s : Structure) → IsOf g right.0 s → IsOf g (expr.Name name) (Named r s) = λ s of_s. name_is g name r right.0 s numbered right.1 before.is_told of_s in

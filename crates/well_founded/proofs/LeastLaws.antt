@@ -2,6 +2,7 @@
 use Rattle.std.proofs.Common.{◌≡◌, ℕ, zero, suc, ◌+◌, ◌*◌, ◌≤◌, min, Bool, true, false, not, ◌&&◌, ◌||◌, List, length, nat_eq, Option, Some, None, refl, sym, ap, ◌∙◌, subst, arith, true≢false, length-append}
 use Rattle.std.specs.Option.{option_map, option_map_or, option_and_then}
 use Rattle.std.proofs.lemmas.Bool.{and_parts, and_from, eqb-true, eq-eqb}
+use Rattle.lists.proofs.Tests.{held}
 use Rattle.spec_syntax.specs.declared.expr.Kind.{Kind}
 use Rattle.spec_syntax.specs.declared.expr.Card.{Card}
 use Rattle.spec_syntax.specs.Expression as expr
@@ -19,11 +20,6 @@ use Rattle.well_founded.proofs.SetsLaws.{symbol_reading, right_reading, argument
 use Rattle.well_founded.proofs.ManyLaws.{form_of, many_is, fewest_is}
 
 -- ---- what a test of a name tells
-
-module _ {X : Type 0} where
-  pub held : (has : X → Bool) (o : Option X) → option_map_or has o false ≡ true → (x : X) × (o ≡ Some x) × (has x ≡ true)
-  held has None h = absurd (true≢false (sym h))
-  held has (Some x) h = (x, refl, h)
 
 pub record HasRule (g : Grammar) (name : List ℕ) (n : ℕ) (has : Expression → Bool) : Type 0 where
   pub right : Expression

@@ -93,10 +93,6 @@ AreBelow [] [] = Unit {0}
 AreBelow (a ∷ others) (b ∷ bs) = IsBelow a b × AreBelow others bs
 AreBelow lower upper = ⊥
 
-below_itself : (a : Option ℕ) → IsBelow a a
-below_itself None = tt
-below_itself (Some n) = omega arith
-
 lesser_below : (a b c d : Option ℕ) → IsBelow a c → IsBelow b d → IsBelow (lesser a b) (lesser c d)
 lesser_below a b None None h k = tt
 lesser_below None b None (Some n) h k = k

@@ -7,7 +7,6 @@ pub mod LeastLaws
 pub mod LeastReached
 pub mod LeastRounds
 pub mod LeastLoops
-pub mod GraphSteps
 pub mod SameSizeLaws
 pub mod SameSizeSteps
 pub mod EndlessLaws

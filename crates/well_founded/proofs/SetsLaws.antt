@@ -37,21 +37,19 @@ argument_reading (more_expressions e es) (suc zero) = refl
 argument_reading (more_expressions e es) (suc (suc k)) = argument_reading es (suc k)
 
 -- the words stay words, and nothing else becomes one
+words_reading : (e : Expression) → (is_epsilon (with_sets e) ≡ is_epsilon e) × (is_atom (with_sets e) ≡ is_atom e)
+words_reading expr.Epsilon = (refl, refl)
+words_reading expr.Atom = (refl, refl)
+words_reading (expr.Name name) = (refl, refl)
+words_reading (expr.Union es) = (refl, refl)
+words_reading (expr.Prod es) = (refl, refl)
+words_reading (expr.Many kind element card) = (refl, refl)
+
 pub epsilon_reading : (e : Expression) → is_epsilon (with_sets e) ≡ is_epsilon e
-epsilon_reading expr.Epsilon = refl
-epsilon_reading expr.Atom = refl
-epsilon_reading (expr.Name name) = refl
-epsilon_reading (expr.Union es) = refl
-epsilon_reading (expr.Prod es) = refl
-epsilon_reading (expr.Many kind element card) = refl
+epsilon_reading e = (words_reading e).0
 
 pub atom_reading : (e : Expression) → is_atom (with_sets e) ≡ is_atom e
-atom_reading expr.Epsilon = refl
-atom_reading expr.Atom = refl
-atom_reading (expr.Name name) = refl
-atom_reading (expr.Union es) = refl
-atom_reading (expr.Prod es) = refl
-atom_reading (expr.Many kind element card) = refl
+atom_reading e = (words_reading e).1
 
 -- what is mapped to something is there
 pub mapped : {X Y : Type 0} (f : X → Y) (found : Option X) (y : Y) → option_map f found ≡ Some y → (x : X) × (found ≡ Some x) × (f x ≡ y)

@@ -27,8 +27,10 @@ together (Some n) (Some m) = Some (min (n + m) no_least)
 
 -- the least number of components that a container of the kind asks for
 abbrev pub low_count : Kind → Card → ℕ
+low_count kind.Sequence card = card.low
+low_count kind.Set card = card.low
+low_count kind.PowerSet card = card.low
 low_count kind.Cycle card = max card.low 1
-low_count kind card = card.low
 
 -- the least number of components that kind and bound admit, where there is one
 abbrev pub fewest : Kind → Card → Option ℕ

@@ -9,9 +9,9 @@ pub mod Least
 pub mod Laws
 pub mod SameSize
 pub mod Containers
+pub mod Sized
 pub mod NodeKinds
 pub mod NodeTable
 pub mod UsedNames
 pub mod CheckedCode
 pub mod GrammarView
-pub mod Search

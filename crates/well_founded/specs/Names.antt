@@ -2,13 +2,18 @@
 use Rattle.std.specs.Prelude.{ℕ, Bool, not, List, [], ◌∷◌, Option, Some, None, is_some, if◌then◌else◌, find}
 use Rattle.std.specs.Option.{option_or}
 use Rattle.std.specs.List.{flat_map}
-use Rattle.spec_syntax.specs.Expression.{Expression, Name, preorder}
+use Rattle.spec_syntax.specs.Expression as expr
+use Rattle.spec_syntax.specs.Expression.{Expression, preorder}
 use Rattle.spec_syntax.specs.Rules.{Rules, symbol}
 
 -- the name, where the expression is one
 abbrev pub name_in : Expression → List (List ℕ)
-name_in (Name name) = name ∷ []
-name_in e = []
+name_in expr.Epsilon = []
+name_in expr.Atom = []
+name_in (expr.Name name) = name ∷ []
+name_in (expr.Union arguments) = []
+name_in (expr.Prod arguments) = []
+name_in (expr.Many kind element card) = []
 
 -- the names in the expression, from left to right
 abbrev pub used_names : Expression → List (List ℕ)

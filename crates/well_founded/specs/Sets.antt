@@ -6,8 +6,10 @@ use Rattle.spec_syntax.specs.Expression.{Expression, Epsilon, Atom, Name, Union,
 use Rattle.spec_syntax.specs.Grammar.{Grammar}
 
 abbrev pub set_kind : Kind → Kind
+set_kind kind.Sequence = kind.Sequence
+set_kind kind.Set = kind.Set
 set_kind kind.PowerSet = kind.Set
-set_kind kind = kind
+set_kind kind.Cycle = kind.Cycle
 
 abbrev mutual
   -- the expression with each PowerSet read as Set

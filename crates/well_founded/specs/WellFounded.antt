@@ -4,7 +4,7 @@ use Rattle.std.specs.List.{list_all}
 use Rattle.spec_syntax.specs.declared.expr.Kind.{Kind}
 use Rattle.spec_syntax.specs.declared.expr.Kind.TheVariants as kind
 use Rattle.spec_syntax.specs.declared.expr.Card.{Card}
-use Rattle.spec_syntax.specs.Expression.{Expression, Name, Many, preorder}
+use Rattle.spec_syntax.specs.Expression.{Expression, Epsilon, Atom, Name, Union, Prod, Many, preorder}
 use Rattle.spec_syntax.specs.Rules.{Rules}
 use Rattle.spec_syntax.specs.Grammar.{Grammar}
 use Rattle.struct_model.specs.Structure.{Structure, size}
@@ -17,8 +17,15 @@ use Rattle.well_founded.specs.Sizes.{IsOf, IsProductive, IsLeast}
 use Rattle.well_founded.specs.Inside.{IsInside}
 
 abbrev pub is_no_cycle : Expression → Bool
+is_no_cycle Epsilon = true
+is_no_cycle Atom = true
+is_no_cycle (Name name) = true
+is_no_cycle (Union arguments) = true
+is_no_cycle (Prod arguments) = true
+is_no_cycle (Many kind.Sequence element card) = true
+is_no_cycle (Many kind.Set element card) = true
+is_no_cycle (Many kind.PowerSet element card) = true
 is_no_cycle (Many kind.Cycle element card) = false
-is_no_cycle e = true
 
 -- does the rule hold no Cycle, or may it
 abbrev pub may_hold_cycles : Grammar → Expression → Bool

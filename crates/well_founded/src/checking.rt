@@ -1,13 +1,12 @@
 //! The check of a grammar.
-ghost use Rattle.std.specs.Prelude.{◌≡◌, ◌≢◌, ℕ, ◌≤◌, ◌<◌, Some, None, length, position, is_none, IfOk, IfErr, IfSome, All, IsTrue, Option, List};
+ghost use Rattle.std.specs.Prelude.{◌≡◌, ◌≢◌, ℕ, ◌≤◌, ◌<◌, ◌+◌, Some, None, length, position, is_none, unwrap_or, get_or, IfOk, IfErr, IfSome, All, Option, List};
 ghost use Rattle.std.specs.Option.{option_copied, option_and_then};
-ghost use Rattle.spec_syntax.specs.Rules.{symbol, is_spec, all_nodes, rule_name};
-ghost use Rattle.well_founded.specs.Names.{undefined_name, name_without_rule};
-ghost use Rattle.well_founded.specs.Least.{AreSizes, IsSmall, least_with, size_of_name};
-ghost use Rattle.well_founded.specs.SameSize.{same_size_graph};
-ghost use Rattle.graphs.specs.Graph.{IsGraph};
-ghost use Rattle.well_founded.specs.WellFounded.{HoldsCycle, HoldsNull, OfNone, IsWellFounded, IsCulprit, Checks};
-ghost use Rattle.well_founded.specs.Search.{IsFirstRound, IsNoRound};
+ghost use Rattle.spec_syntax.specs.Rules.{symbol, rule_name};
+ghost use Rattle.well_founded.specs.Names.{undefined_name};
+ghost use Rattle.well_founded.specs.Sizes.{no_least};
+ghost use Rattle.well_founded.specs.Sized.{IsAllButFinite};
+ghost use Rattle.graphs.specs.Graph.{IsGraph, IsFirstRound, IsNoRound};
+ghost use Rattle.well_founded.specs.WellFounded.{IsWellFounded, IsCulprit, Checks};
 
 use crate::containers::{first_over_null, first_with_cycle};
 use crate::grammar::checked;
@@ -69,6 +68,22 @@ fn number_of(spec: &Spec, start: Option<&Name>) -> Option<u32>
     }
 }
 
+/// The refusal of the rule at this place, from 0, as endless.
+fn endless(
+    alloc: Global,
+    spec: &Spec,
+    sizes: &[Option<u32>],
+    place: usize,
+) -> Result<Refused, AllocError>
+    requires few { length spec.now ≤ 64 }
+    requires for_each { length sizes.now ≡ length spec.now }
+    requires within { place < length spec.now }
+    ensures { IfOk result (λ refused. refused ≡ Refused.Endless (rule_name spec.now (place + 1)) (unwrap_or (get_or sizes.now place None) no_least)) }
+{
+    let name = name_of(alloc, spec, place as u32 + 1)?;
+    Ok(Refused::Endless(name, sizes[place].unwrap_or(NO_LEAST)))
+}
+
 /// The tables of a grammar that isn't refused for any other fault, or the refusal of an endless rule.
 fn check_sized(
     alloc: Global,
@@ -77,13 +92,7 @@ fn check_sized(
     universe: Universe,
     start: Option<u32>,
 ) -> Result<Grammar, Refused>
-    requires spec { IsTrue (is_spec spec.now) }
-    requires named { name_without_rule spec.now ≡ None }
-    requires sizes { AreSizes spec.now sizes.now }
-    requires small { All IsSmall sizes.now }
-    requires no_cycles { OfNone (HoldsCycle (record { rules = spec.now; universe = universe })) spec.now }
-    requires productive { position is_none sizes.now ≡ None }
-    requires no_nulls { OfNone (HoldsNull (record { rules = spec.now; universe = universe })) spec.now }
+    requires all_but_finite { IsAllButFinite (record { rules = spec.now; universe = universe }) sizes.now }
     requires start { IfSome start (λ sym. (1 ≤ sym) × (sym ≤ length spec.now)) }
     ensures rules { IfOk result (λ grammar. grammar.rules ≡ spec.now) }
     ensures universe { IfOk result (λ grammar. grammar.universe ≡ universe) }
@@ -95,8 +104,7 @@ fn check_sized(
     let roots = right_nodes(alloc, spec)?;
     let graph = same_size_graph(alloc, spec, sizes, roots.as_slice())?;
     if let Some(place) = first_round(alloc, &graph, &roots)? {
-        let name = name_of(alloc, spec, place as u32 + 1)?;
-        return Err(Refused::Endless(name, sizes[place].unwrap_or(NO_LEAST)));
+        return Err(endless(alloc, spec, sizes, place)?);
     }
     let ranks = ranks(alloc, &graph)?;
     let leasts = node_leasts(alloc, spec, sizes)?;

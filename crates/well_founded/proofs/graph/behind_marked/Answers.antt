@@ -1,9 +1,13 @@
-use Rattle.std.proofs.Common.{◌<◌, length, true, false, ◌∙◌, sym, arith}
+use Rattle.std.proofs.Common.{◌≡◌, ◌<◌, ℕ, length, true, false, Option, Some, None, is_some, true≢false, refl, ◌∙◌, sym, arith}
 use Rattle.std.proofs.lemmas.Option.{IfSome_then}
 use Rattle.graphs.proofs.Reached.{closed_more}
-use Rattle.well_founded.proofs.GraphSteps.{mark_read, graph_read, next_within, is_in_next, begins_marked, behind_all, none_from, mark_or_none}
+use Rattle.graphs.proofs.Marks.{mark_read, graph_read, next_within, is_in_next, begins_marked, behind_all, mark_or_none}
 use Rattle.well_founded.proofs.graph.behind_marked.Goals as goal
 use Rattle.well_founded.proofs.graph.behind_marked.Goals.{then-marks-i+else-is_some, else-marks-i}
+
+none_from : (found : Option ℕ) → is_some found ≡ false → found ≡ None
+none_from None not_some = refl
+none_from (Some j) not_some = absurd (true≢false not_some)
 
 pub unmarked-found-requires : goal.unmarked-found-requires
 unmarked-found-requires c =

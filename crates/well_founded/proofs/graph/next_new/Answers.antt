@@ -1,5 +1,5 @@
 use Rattle.std.proofs.Common.{inl}
-use Rattle.well_founded.proofs.GraphSteps.{graph_read, next_within, is_in_next, begins_marked, closed_by}
+use Rattle.graphs.proofs.Marks.{graph_read, next_within, is_in_next, begins_marked, closed_by}
 use Rattle.well_founded.proofs.graph.next_new.Goals as goal
 
 pub unmarked-requires : goal.unmarked-requires

@@ -1,5 +1,5 @@
 use Rattle.graphs.proofs.Reached.{sound_more, reaches_closed}
-use Rattle.well_founded.proofs.GraphSteps.{room_falls, new_at, closed_at}
+use Rattle.graphs.proofs.Marks.{room_falls, new_at, closed_at}
 use Rattle.well_founded.proofs.graph.reached.Goals as goal
 
 pub loop-node-smaller : goal.loop-node-smaller

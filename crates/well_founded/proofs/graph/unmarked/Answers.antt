@@ -1,5 +1,6 @@
 use Rattle.std.proofs.Common.{false, true, get_or}
-use Rattle.well_founded.proofs.GraphSteps.{is_in_get_or, all_marked_more, mark_read}
+use Rattle.lists.proofs.Places.{is_in_get_or}
+use Rattle.graphs.proofs.Marks.{all_marked_more, mark_read}
 use Rattle.well_founded.proofs.graph.unmarked.Goals as goal
 
 pub bounds-marks-node : goal.bounds-marks-node

@@ -1,5 +1,5 @@
 use Rattle.std.proofs.Common.{take}
-use Rattle.well_founded.proofs.GraphSteps.{AllMarked}
+use Rattle.graphs.proofs.Marks.{AllMarked}
 use Rattle.well_founded.proofs.graph.unmarked.Given as goal
 
 abbrev pub invariant-loop-node : goal.invariant-loop-node

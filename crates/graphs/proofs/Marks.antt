@@ -1,22 +1,12 @@
--- Steps of the code that marks what a node leads to.
-use Rattle.std.proofs.Common.{◌≡◌, ◌⊎◌, ℕ, zero, suc, ◌+◌, ◌-◌, ◌<◌, ◌≤◌, Bool, true, false, List, [], ◌∷◌, length, get_or, take, slice_get, Option, Some, None, is_some, true≢false, refl, add-one, sym, ap, ◌∙◌, subst, inl, inr, arith}
+-- Marks that grow one by one: what a step that marks a node, or that looks for one without a mark, is told.
+use Rattle.std.proofs.Common.{◌≡◌, ℕ, ◌+◌, ◌-◌, ◌<◌, ◌≤◌, Bool, true, false, List, length, get_or, take, slice_get, Some, add-one, sym, ap, ◌∙◌, subst, inl, inr, arith}
 use Rattle.std.proofs.Math.ListN.{set}
 use Rattle.std.proofs.lemmas.List.{take_all}
 use Rattle.std.proofs.lemmas.Option.{slice_get-get_or}
 use Rattle.lists.specs.Enumeration.{IsIn}
+use Rattle.lists.proofs.Places.{is_in_more}
 use Rattle.graphs.specs.Graph.{Graph, next, IsGraph, IsMarked, IsUnmarked, count_true, IsNew, IsClosed, IsBehindMarked}
 use Rattle.graphs.proofs.Reached.{next_at, IsSound, count_more, count_below, ClosedBelow, marked_within}
-
-is_in_more : (xs : List ℕ) (i j d : ℕ) → i < length xs → IsIn j (take (suc i) xs) → IsIn j (take i xs) ⊎ (j ≡ get_or xs i d)
-is_in_more [] i j d within at = absurd (omega arith)
-is_in_more (x ∷ xs) zero j d within at = elim at [ inl same ↦ inr same | inr later ↦ absurd later ]
-is_in_more (x ∷ xs) (suc i) j d within at =
-    elim at [ inl same ↦ inl (inl same) | inr later ↦ elim (is_in_more xs i j d (omega arith) later) [ inl before ↦ inl (inr before) | inr here ↦ inr here ] ]
-
-pub is_in_get_or : (xs : List ℕ) (i d : ℕ) → i < length xs → IsIn (get_or xs i d) xs
-is_in_get_or [] i d within = absurd (omega arith)
-is_in_get_or (x ∷ xs) zero d within = inl refl
-is_in_get_or (x ∷ xs) (suc i) d within = inr (is_in_get_or xs i d (omega arith))
 
 -- each of these nodes has a mark
 abbrev pub AllMarked : List Bool → List ℕ → Type 0
@@ -28,9 +18,6 @@ all_marked_more marks nodes i d within before here = rw add-one (λ j at. elim (
   | inl earlier ↦ before j earlier
   | inr same ↦ subst (λ (k : ℕ). IsMarked marks k) (sym same) here
 ])
-
-pub all_marked_all : (marks : List Bool) (nodes : List ℕ) (i : ℕ) → length nodes ≤ i → AllMarked marks (take i nodes) → AllMarked marks nodes
-all_marked_all marks nodes i past before = subst (λ (some : List ℕ). AllMarked marks some) (take_all i nodes past) before
 
 -- what follows a node that has a mark has one, where that holds below the number of nodes
 pub behind_all : (graph : Graph) (marks : List Bool) (n : ℕ) → length marks ≤ n → ClosedBelow graph marks n → (j : ℕ) → IsBehindMarked graph marks j → IsMarked marks j
@@ -54,10 +41,6 @@ begins_marked graph marks i nodes at all = subst (λ (some : List ℕ). AllMarke
 
 pub is_in_next : (graph : Graph) (i : ℕ) (nodes : List ℕ) (j : ℕ) → slice_get graph i ≡ Some nodes → IsIn j nodes → IsIn j (next graph i)
 is_in_next graph i nodes j at inside = subst (λ (some : List ℕ). IsIn j some) (sym (next_at graph i nodes at)) inside
-
-pub none_from : (found : Option ℕ) → is_some found ≡ false → found ≡ None
-none_from None not_some = refl
-none_from (Some j) not_some = absurd (true≢false not_some)
 
 -- there is less room for marks after one more
 pub room_falls : (graph : Graph) (i : ℕ) (marks : List Bool) (j : ℕ) → IsSound graph i marks → IsNew graph i marks j → length graph - count_true (set marks j true) < length graph - count_true marks
