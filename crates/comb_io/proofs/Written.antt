@@ -5,7 +5,7 @@ use Rattle.std.proofs.lemmas.List.{take-append-le}
 use Rattle.std.proofs.KnownBytes.{Appends-nil, Appends-trans}
 use Rattle.std.specs.Io.KnownBytes.{Appends}
 use Rattle.comb_io.specs.Parts.{AppendsPart}
-use Rattle.comb_io.specs.Writes.{Write, ToOut, ToErr, outpart, errpart, to_out, to_err, Wrote, WrotePart, WrotePrefix, WroteProperPrefix}
+use Rattle.comb_io.specs.Writes.{Write, ToOut, ToErr, outpart, errpart, to_out, to_err, Wrote, WrotePart}
 
 pub outpart-append : (ws vs : List Write) → outpart (ws ++ vs) ≡ outpart ws ++ outpart vs
 outpart-append [] vs = refl
@@ -106,9 +106,6 @@ WrotePart-to_err a d e bs h = record {
   wrote = subst (Wrote a a d e) (sym (take-to_err h.count bs)) (Wrote-to_err a d e (take h.count bs) h.bytes);
 }
 
-pub WrotePrefix-nothing : (out err : Option (List ℕ)) (ws : List Write) → WrotePrefix out out err err ws
-WrotePrefix-nothing out err ws = record { count = 0; within = omega arith; wrote = Wrote-nil out err }
-
--- a proper prefix is a prefix
-pub WrotePrefix-proper : {a b d e : Option (List ℕ)} {ws : List Write} → WroteProperPrefix a b d e ws → WrotePrefix a b d e ws
-WrotePrefix-proper h = record { count = h.count; within = omega (arith, h.within); wrote = h.wrote }
+-- at least fewer weren't written either
+pub WrotePart-fewer : {fewer more : ℕ} {a b d e : Option (List ℕ)} {ws : List Write} → fewer ≤ more → WrotePart more a b d e ws → WrotePart fewer a b d e ws
+WrotePart-fewer less h = record { count = h.count; within = omega (arith, less, h.within); wrote = h.wrote }
