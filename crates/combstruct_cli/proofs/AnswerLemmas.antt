@@ -3,7 +3,6 @@ use Rattle.std.specs.Io.KnownBytes.{Consumes}
 use Rattle.std.proofs.lemmas.Bool.Decides.{nat_tests}
 use Rattle.std.proofs.lemmas.List.{take_all, take-append-le, append-nil}
 use Rattle.spec_reader.specs.declared.refusal.Which.TheVariants as which
-use Rattle.spec_reader.specs.declared.refusal.ReadRefused.TheVariants as read
 use Rattle.combstruct_cli.specs.declared.run.Status.TheVariants as status
 use Rattle.combstruct_cli.specs.declared.run.Outcome.TheVariants.{Done, Refused}
 use Rattle.combstruct_cli.specs.Outcome.{outcome_of}
@@ -18,10 +17,8 @@ use Rattle.struct_model.specs.Text.{maple_parts}
 use Rattle.struct_model.specs.Bounded.{listing}
 use Rattle.well_founded.specs.Names.{name_without_rule, symbol_without_rule, undefined_name}
 use Rattle.well_founded.specs.Checked.{Checked, grammar}
-use Rattle.well_founded.specs.declared.refused.Refused.{Refused as GrammarRefused}
-use Rattle.well_founded.specs.declared.refused.Refused.TheVariants as refusal
 use Rattle.spec_syntax.proofs.RulesLemmas.{found_rule}
-use Rattle.combstruct_cli.specs.declared.refusal.Refusal.TheVariants.{Read}
+use Rattle.combstruct_cli.specs.declared.refusal.Refusal.TheVariants as refusal
 use Rattle.combstruct_cli.specs.NodeListing.{listing_of_rule}
 use Rattle.combstruct_cli.specs.Input.{IsSpent, TookOver}
 use Rattle.combstruct_cli.specs.Answer.{refusing, listing_text, nothing, place_in, refusing_long, refusing_syntax, refusing_second, usage_answer, Answer, status_of, AnswersScript, IsAnswer}
@@ -57,7 +54,7 @@ symbol_defined rules symbol defined none = by (name_without_rule rules) defined
 pub refusing_long-short : (script : List ℕ) → length script ≤ 16777216 → nothing ≡ refusing_long script
 refusing_long-short script short = grind (arith, nat_tests)
 
-pub refusing_long-long : (script : List ℕ) → 16777216 < length script → refusing (place_in script 16777216).line (Read (read.Limit which.Script)) ≡ refusing_long script
+pub refusing_long-long : (script : List ℕ) → 16777216 < length script → refusing (place_in script 16777216).line (refusal.Limit which.Script) ≡ refusing_long script
 refusing_long-long script long = grind (arith, nat_tests)
 
 -- a second piece begins early enough or not
@@ -122,12 +119,3 @@ end_or_over most script left left' taken at_end = by (within_or_over (length scr
     by : (length script ≤ most) ⊎ (most < length script) → IsSpent left left' ⊎ TookOver most left left'
     by (inl within) = inl (at_end within)
     by (inr over) = inr (record { taken = script; over = over; took = taken })
-
--- is memory wanting
-pub is_memory_refused : (refused : GrammarRefused) → (refused ≡ refusal.Memory) ⊎ (refused ≢ refusal.Memory)
-is_memory_refused (refusal.Undefined name) = inr (λ e. cc)
-is_memory_refused (refusal.CycleUnlabelled name) = inr (λ e. cc)
-is_memory_refused (refusal.Unproductive name) = inr (λ e. cc)
-is_memory_refused (refusal.NullElement name) = inr (λ e. cc)
-is_memory_refused (refusal.Endless name n) = inr (λ e. cc)
-is_memory_refused refusal.Memory = inl refl

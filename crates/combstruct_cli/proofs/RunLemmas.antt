@@ -1,36 +1,26 @@
--- Laws of effects that are made one after the other.
-use Rattle.spec_reader.specs.Cutting.{first_piece_of}
-use Rattle.combstruct_cli.specs.declared.run.Status.TheVariants as status
-use Rattle.combstruct_cli.proofs.AnswerLemmas.{status-done, status-refused}
-use Rattle.std.proofs.Common.{◌≡◌, ◌≢◌, ◌+◌, [], ◌∷◌, length, take, arith, ℕ, Bool, true, false, List, ◌||◌, Option, Result, Ok, Err, refl, sym, ap, subst, ◌∙◌}
+-- Laws of effects that are made one after the other, and of the counts of faults at their end.
+use Rattle.std.proofs.Common.{◌≡◌, ◌≢◌, ◌⊎◌, inl, inr, ◌≤◌, [], ◌∷◌, length, arith, ℕ, Bool, true, false, List, ◌||◌, Option, Result, Ok, Err, refl, sym, ap, subst, ◌∙◌}
 use Rattle.std.specs.Io.KnownBytes.{Appends}
 use Rattle.comb_io.specs.Parts.{AppendsProperPrefix}
-use Rattle.comb_io.specs.Writes.{Write, Wrote, WrotePrefix, WroteProperPrefix}
-use Rattle.comb_io.proofs.Written.{Wrote-append, Wrote-to_out, Wrote-to_err, WrotePart-append, WrotePart-after, WrotePart-to_out, WrotePart-to_err, WrotePrefix-proper}
+use Rattle.comb_io.specs.Writes.{Write, Wrote, WrotePart}
+use Rattle.comb_io.proofs.Written.{Wrote-nil, Wrote-append, Wrote-to_out, Wrote-to_err, WrotePart-append, WrotePart-after, WrotePart-to_out, WrotePart-to_err, WrotePart-fewer}
+use Rattle.combstruct_cli.specs.declared.fault.Fault.{Fault}
+use Rattle.combstruct_cli.specs.declared.fault.Fault.TheVariants as fault
 use Rattle.combstruct_cli.specs.declared.run.Outcome.{Outcome}
 use Rattle.combstruct_cli.specs.declared.run.Outcome.TheVariants.{Done, Refused}
-use Rattle.combstruct_cli.specs.declared.run.RunFault.{RunFault}
-use Rattle.combstruct_cli.specs.declared.run.RunFault.TheVariants.{Output, Memory}
-use Rattle.combstruct_cli.specs.Answer.{Effect, Answer, AnswersScript, RunsFirst, most_bytes, writing, refusing, followed_by}
-use Rattle.combstruct_cli.specs.Outcome.{outcome_of, either, Makes, Ends}
+use Rattle.combstruct_cli.specs.declared.run.Status.{Status}
+use Rattle.combstruct_cli.specs.declared.run.Status.TheVariants as status
 use Rattle.combstruct_cli.specs.declared.refusal.Refusal.{Refusal}
 use Rattle.combstruct_cli.specs.Refusals.{refusal_line}
+use Rattle.combstruct_cli.specs.Answer.{Effect, Answer, AnswersScript, writing, refusing, followed_by}
+use Rattle.combstruct_cli.specs.Outcome.{outcome_of, either, unwritten_by, fault_status, end_status, Makes, Ends, Gives, NoneRises, Blames, HasRunCause, HasStatusCause, DidNotRise}
+use Rattle.combstruct_cli.proofs.AnswerLemmas.{status-done, status-refused}
 
-module _ (out out' err err' : Option (List ℕ)) where
-  -- a fault in the first part ends both
-  pub Makes-first : (first second : Effect) (fault : RunFault) → Makes out out' err err' first (Err fault) → Makes out out' err err' (followed_by first second) (Err fault)
-  Makes-first first second Output part = WrotePart-append second.writes part
-  Makes-first first second Memory part = WrotePart-append second.writes part
-
-  -- the output failed while a text was written
-  pub Makes-writing : (text : List ℕ) (fault : RunFault) → AppendsProperPrefix out out' text → Makes out out' err err (writing text) (Err fault)
-  Makes-writing text Output part = WrotePart-to_out out out' err text part
-  Makes-writing text Memory part = WrotePrefix-proper (WrotePart-to_out out out' err text part)
-
-  -- the error output failed while a line was written
-  pub Makes-refusing : (line : ℕ) (refusal : Refusal) (fault : RunFault) → AppendsProperPrefix err err' (refusal_line line refusal) → Makes out out err err' (refusing line refusal) (Err fault)
-  Makes-refusing line refusal Output part = WrotePart-to_err out err err' (refusal_line line refusal) part
-  Makes-refusing line refusal Memory part = WrotePrefix-proper (WrotePart-to_err out err err' (refusal_line line refusal) part)
+at_most_one : (whose : Fault) → unwritten_by whose ≤ 1
+at_most_one fault.Input = omega arith
+at_most_one fault.Output = omega arith
+at_most_one fault.Errors = omega arith
+at_most_one fault.Memory = omega arith
 
 either-outcome_of : (first second : Bool) → either (outcome_of first) (outcome_of second) ≡ outcome_of (first || second)
 either-outcome_of true second = refl
@@ -38,9 +28,8 @@ either-outcome_of false second = refl
 
 module _ (out mid out' err mid_err err' : Option (List ℕ)) (first second : Effect) (outcome : Outcome) (made : Makes out mid err mid_err first (Ok outcome)) where
   -- a fault in the second part
-  pub Makes-second : (fault : RunFault) → Makes mid out' mid_err err' second (Err fault) → Makes out out' err err' (followed_by first second) (Err fault)
-  Makes-second Output part = WrotePart-after made.0 part
-  Makes-second Memory part = WrotePart-after made.0 part
+  pub Makes-second : (whose : Fault) → Makes mid out' mid_err err' second (Err whose) → Makes out out' err err' (followed_by first second) (Err whose)
+  Makes-second whose part = WrotePart-after made.0 part
 
   -- both parts
   pub Makes-both : (other : Outcome) → Makes mid out' mid_err err' second (Ok other) → Makes out out' err err' (followed_by first second) (Ok (either outcome other))
@@ -48,58 +37,86 @@ module _ (out mid out' err mid_err err' : Option (List ℕ)) (first second : Eff
       (Wrote-append made.0 also.0, (λ i. either (made.1 i) (also.1 i)) ∙ either-outcome_of first.is_refused second.is_refused)
 
 module _ (out out' err err' : Option (List ℕ)) where
+  -- a fault in the first part ends both
+  pub Makes-first : (first second : Effect) (whose : Fault) → Makes out out' err err' first (Err whose) → Makes out out' err err' (followed_by first second) (Err whose)
+  Makes-first first second whose part = WrotePart-append second.writes part
+
   -- a text was written whole
-  pub Makes-wrote : (text listed : List ℕ) (e : Effect) → Appends out out' text → text ≡ listed → e ≡ writing listed → Makes out out' err err e (Ok Done)
-  Makes-wrote text listed e grown is does =
-      let P : Effect → Type 0 = λ e. Makes out out' err err e (Ok Done) in
-      subst P (ap writing is ∙ sym does) (Wrote-to_out out out' err text grown, refl)
+  pub Makes-wrote : (text listed : List ℕ) → Appends out out' text → text ≡ listed → Makes out out' err err (writing listed) (Ok Done)
+  Makes-wrote text listed grown is = (Wrote-to_out out out' err listed (subst (Appends out out') is grown), refl)
 
   -- and a part of it
-  pub Makes-wrote-part : (text listed : List ℕ) (e : Effect) (fault : RunFault) → AppendsProperPrefix out out' text → text ≡ listed → e ≡ writing listed → Makes out out' err err e (Err fault)
-  Makes-wrote-part text listed e fault part is does =
-      let P : Effect → Type 0 = λ e. Makes out out' err err e (Err fault) in
-      subst P (ap writing is ∙ sym does) (Makes-writing out out' err err text fault part)
+  pub Makes-wrote-part : (text listed : List ℕ) (whose : Fault) → AppendsProperPrefix out out' text → text ≡ listed → Makes out out' err err (writing listed) (Err whose)
+  Makes-wrote-part text listed whose part is =
+      WrotePart-fewer (at_most_one whose) (WrotePart-to_out out out' err listed (subst (AppendsProperPrefix out out') is part))
 
   -- a refusal was told whole
-  pub Makes-refused : (text : List ℕ) (line : ℕ) (refusal : Refusal) → Appends err err' text → text ≡ refusal_line line refusal → Makes out out err err' (refusing line refusal) (Ok Refused)
-  Makes-refused text line refusal grown is =
-      let P : List ℕ → Type 0 = λ text. Appends err err' text in
-      (Wrote-to_err out err err' (refusal_line line refusal) (subst P is grown), refl)
+  pub Makes-refused : (text : List ℕ) (line : ℕ) (why : Refusal) → Appends err err' text → text ≡ refusal_line line why → Makes out out err err' (refusing line why) (Ok Refused)
+  Makes-refused text line why grown is = (Wrote-to_err out err err' (refusal_line line why) (subst (Appends err err') is grown), refl)
 
   -- and in part
-  pub Makes-refused-part : (text : List ℕ) (line : ℕ) (refusal : Refusal) (fault : RunFault) → AppendsProperPrefix err err' text → text ≡ refusal_line line refusal → Makes out out err err' (refusing line refusal) (Err fault)
-  Makes-refused-part text line refusal fault part is =
-      let P : List ℕ → Type 0 = λ text. AppendsProperPrefix err err' text in
-      Makes-refusing out out err err' line refusal fault (subst P is part)
+  pub Makes-refused-part : (text : List ℕ) (line : ℕ) (why : Refusal) (whose : Fault) → AppendsProperPrefix err err' text → text ≡ refusal_line line why → Makes out out err err' (refusing line why) (Err whose)
+  Makes-refused-part text line why whose part is =
+      WrotePart-fewer (at_most_one whose) (WrotePart-to_err out err err' (refusal_line line why) (subst (AppendsProperPrefix err err') is part))
 
   -- the same effect under another name
-  pub Makes-same : (one other : Effect) (result : Result Outcome RunFault) → one ≡ other → Makes out out' err err' one result → Makes out out' err err' other result
+  pub Makes-same : (one other : Effect) (result : Result Outcome Fault) → one ≡ other → Makes out out' err err' one result → Makes out out' err err' other result
   Makes-same one other result same made = let P : Effect → Type 0 = λ e. Makes out out' err err' e result in subst P same made
 
--- what a run of the bytes that were taken made is the answer to the script
-pub Makes-answer : (out out' err err' : Option (List ℕ)) (given script : List ℕ) (answer : Answer) (got result : Result Outcome RunFault) → script ≡ take (most_bytes + 1) given → got ≡ result
-    → (runs : AnswersScript given answer) → ((whole : Effect) → RunsFirst script (first_piece_of script) whole → Makes out out' err err' whole got) → Makes out out' err err' runs.whole result
-Makes-answer out out' err err' given script answer got result is same runs makes =
-    let P : List ℕ → Type 0 = λ script. RunsFirst script (first_piece_of script) runs.whole in
-    let Q : Result Outcome RunFault → Type 0 = λ r. Makes out out' err err' runs.whole r in
-    subst Q same (makes runs.whole (subst P (sym is) runs.runs))
-
 module _ (out out' err err' : Option (List ℕ)) (given : List ℕ) (answer : Answer) (runs : AnswersScript given answer) where
-  pub Ends-done : Makes out out' err err' runs.whole (Ok Done) → Ends out out' err err' answer status.Well
-  Ends-done made =
-      let P : List Write → Type 0 = λ ws. Wrote out out' err err' ws in
-      (subst P (sym runs.writes) made.0, runs.status ∙ status-done runs.whole.is_refused made.1)
+  wrote-answer : Wrote out out' err err' runs.whole.writes → Wrote out out' err err' answer.writes
+  wrote-answer made = subst (Wrote out out' err err') (sym runs.writes) made
 
-  pub Ends-refused : Makes out out' err err' runs.whole (Ok Refused) → Ends out out' err err' answer status.SomeRefused
-  Ends-refused made =
-      let P : List Write → Type 0 = λ ws. Wrote out out' err err' ws in
-      (subst P (sym runs.writes) made.0, runs.status ∙ status-refused runs.whole.is_refused made.1)
+  part-answer : (unwritten : ℕ) → WrotePart unwritten out out' err err' runs.whole.writes → WrotePart unwritten out out' err err' answer.writes
+  part-answer unwritten made = subst (WrotePart unwritten out out' err err') (sym runs.writes) made
 
-  pub Ends-output : Makes out out' err err' runs.whole (Err Output) → Ends out out' err err' answer status.Output
-  Ends-output made = let P : List Write → Type 0 = λ ws. WroteProperPrefix out out' err err' ws in subst P (sym runs.writes) made
+  -- what a run of the script made is the answer to it
+  pub Ends-made : (ended : Result Outcome Fault) → Makes out out' err err' runs.whole ended → Ends out out' err err' answer (end_status ended)
+  Ends-made (Ok Done) made = (wrote-answer made.0, runs.status ∙ status-done runs.whole.is_refused made.1)
+  Ends-made (Ok Refused) made = (wrote-answer made.0, runs.status ∙ status-refused runs.whole.is_refused made.1)
+  Ends-made (Err fault.Input) made = part-answer 0 made
+  Ends-made (Err fault.Output) made = part-answer 1 made
+  Ends-made (Err fault.Errors) made = part-answer 1 made
+  Ends-made (Err fault.Memory) made = part-answer 0 made
 
-  pub Ends-memory : Makes out out' err err' runs.whole (Err Memory) → Ends out out' err err' answer status.Memory
-  Ends-memory made = let P : List Write → Type 0 = λ ws. WrotePrefix out out' err err' ws in subst P (sym runs.writes) made
+-- ---- the counts of faults
+
+-- no count rose, and then some part of a run ended
+pub HasRunCause-after : {A : Type 0} (input mid input' out mid_out out' err mid_err err' : ℕ) (ended : Result A Fault) → NoneRises input mid out mid_out err mid_err
+    → HasRunCause mid input' mid_out out' mid_err err' ended → HasRunCause input input' out out' err err' ended
+HasRunCause-after input mid input' out mid_out out' err mid_err err' ended same cause =
+    let P : ℕ → Type 0 = λ i. HasRunCause i input' mid_out out' mid_err err' ended in
+    let Q : ℕ → Type 0 = λ o. HasRunCause input input' o out' mid_err err' ended in
+    let R : ℕ → Type 0 = λ e. HasRunCause input input' out out' e err' ended in
+    subst R same.2 (subst Q same.1 (subst P same.0 cause))
+
+-- where the outputs can't be to blame, nothing was written
+pub Makes-nothing : (out err : Option (List ℕ)) (input input' : ℕ) (whole : Effect) (whose : Fault) → ((o e : ℕ) → Blames input input' o o e e whose) → Makes out out err err whole (Err whose)
+Makes-nothing out err input input' whole fault.Input blames = record { count = 0; within = omega arith; wrote = Wrote-nil out err }
+Makes-nothing out err input input' whole fault.Output blames = let rises = (blames 0 0).1 in absurd (omega (arith, rises.rose))
+Makes-nothing out err input input' whole fault.Errors blames = let rises = (blames 0 0).2 in absurd (omega (arith, rises.rose))
+Makes-nothing out err input input' whole fault.Memory blames = record { count = 0; within = omega arith; wrote = Wrote-nil out err }
+
+module _ (input input' out out' err err' : ℕ) where
+  pub HasStatusCause-of : (ended : Result Outcome Fault) → HasRunCause input input' out out' err err' ended → HasStatusCause input input' out out' err err' (end_status ended)
+  HasStatusCause-of (Ok Done) cause = cause
+  HasStatusCause-of (Ok Refused) cause = cause
+  HasStatusCause-of (Err fault.Input) cause = cause
+  HasStatusCause-of (Err fault.Output) cause = inl cause
+  HasStatusCause-of (Err fault.Errors) cause = inr cause
+  HasStatusCause-of (Err fault.Memory) cause = cause
+
+  -- where no count shows a fault, the run gave the answer whole or wanted memory
+  pub complete : (out_bytes out_bytes' err_bytes err_bytes' : Option (List ℕ)) (answer : Answer) (ended : Status) → HasStatusCause input input' out out' err err' ended
+      → Ends out_bytes out_bytes' err_bytes err_bytes' answer ended → DidNotRise input input' → DidNotRise out out' → DidNotRise err err'
+      → Gives out_bytes out_bytes' err_bytes err_bytes' answer ended ⊎ (ended ≡ status.Memory)
+  complete _ _ _ _ answer status.Well cause ends _ _ _ = inl (ends.0, sym ends.1)
+  complete _ _ _ _ answer status.SomeRefused cause ends _ _ _ = inl (ends.0, sym ends.1)
+  complete _ _ _ _ answer status.Words cause ends _ _ _ = inl (ends.0, sym ends.1)
+  complete _ _ _ _ answer status.Input cause ends unfailed _ _ = absurd (unfailed cause.0.rose)
+  complete _ _ _ _ answer status.Output (inl cause) ends _ unfailed _ = absurd (unfailed cause.1.rose)
+  complete _ _ _ _ answer status.Output (inr cause) ends _ _ unfailed = absurd (unfailed cause.2.rose)
+  complete _ _ _ _ answer status.Memory cause ends _ _ _ = inr refl
 
 -- a vector without items
 pub no_items : {X : Type 0} (xs : List X) → length xs ≡ 0 → xs ≡ []

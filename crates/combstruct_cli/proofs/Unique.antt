@@ -9,31 +9,39 @@ use Rattle.spec_syntax.specs.declared.statement.RulesRef.TheVariants as rules_re
 use Rattle.spec_syntax.specs.Grammar.{Grammar}
 use Rattle.spec_reader.specs.declared.place.Place.{Place}
 use Rattle.spec_reader.specs.Reading.{Answers}
-use Rattle.spec_reader.specs.Laws.{FormKeeps}
+use Rattle.spec_reader.specs.Laws.{FormIsInForce, FormKeeps}
 use Rattle.spec_reader.proofs.Keeps.{readings-keep}
 use Rattle.well_founded.specs.declared.refused.Refused.{Refused}
 use Rattle.well_founded.proofs.CheckExists.{says_some, says_one}
-use Rattle.combstruct_cli.specs.declared.refusal.Refusal.TheVariants.{Read}
+use Rattle.spec_reader.proofs.InForce.{readings-in-force}
+use Rattle.well_founded.specs.WellFounded.{Checks}
+use Rattle.combstruct_cli.specs.Refusals.{refusal_of_reading, refusal_of_check}
 use Rattle.spec_reader.specs.declared.refusal.ReadRefused.{ReadRefused}
 use Rattle.spec_reader.specs.Cutting.{first_piece_of}
 use Rattle.spec_reader.proofs.Pieces.{some-answer}
-use Rattle.combstruct_cli.specs.Answer.{Effect, Answer, RunsPiece, RunsFirst, Runs, StatementDoes, PieceDoes, effect_of_listing, nothing, refusing, effect_after, followed_by, place_in, refusing_long, most_bytes, status_of, usage_answer}
+use Rattle.combstruct_cli.specs.Answer.{Effect, Answer, RunsPiece, RunsFirst, Runs, StatementDoes, PieceDoes, CheckedListingDoes, nothing, writing, listing_text, effect_after, followed_by, place_in, refusing_long, most_bytes, status_of, usage_answer}
 use Rattle.combstruct_cli.specs.Laws.{SomeAnswer, OneAnswer}
 use Rattle.combstruct_cli.proofs.AnswerLemmas.{within_or_over}
-use Rattle.combstruct_cli.proofs.ReadingLemmas.{answers_same}
+use Rattle.combstruct_cli.proofs.ReadingLemmas.{answers_same, told-fault, told-culprit, Refuses-one}
+
+some-listing : (g : Grammar) (symbol : List ℕ) (size line : ℕ) (said : Option Refused) → Checks g (Some symbol) said → (whole : Effect) × CheckedListingDoes said g symbol size line whole
+some-listing g symbol size line None checks = (writing (listing_text g symbol size), refl)
+some-listing g symbol size line (Some refused) checks = told-culprit g (Some symbol) line refused checks
 
 -- a statement that is read does something
-some-statement : (f : Form) (line : ℕ) → FormKeeps f → (whole : Effect) × StatementDoes f line whole
-some-statement (form.List (job.Grammar (class_ref.Written symbol (rules_ref.Written rules) universe) size)) line keeps =
+some-statement : (f : Form) (line : ℕ) → FormIsInForce f → FormKeeps f → (whole : Effect) × StatementDoes f line whole
+some-statement form.Empty line in_force keeps = (nothing, refl)
+some-statement (form.List (job.Grammar (class_ref.Written symbol (rules_ref.Written rules) universe) size)) line in_force keeps =
     let g : Grammar = record { rules = rules; universe = universe } in
     let said = says_some g (Some symbol) keeps in
-    (effect_of_listing said.0 g symbol size line, record { said = said.0; checks = said.1; does = refl })
-some-statement other line keeps = (nothing, refl)
+    let listed = some-listing g symbol size line said.0 said.1 in
+    (listed.0, record { said = said.0; checks = said.1; does = listed.1 })
+some-statement other line in_force keeps = absurd in_force
 
 -- and so does a piece
 some-piece : (place : Place) (piece : List ℕ) (reading : Result Statement ReadRefused) (line : ℕ) → Answers place piece reading → (whole : Effect) × PieceDoes reading line whole
-some-piece place piece (Ok statement) line reads = some-statement statement.form line (readings-keep piece statement reads)
-some-piece place piece (Err why) line reads = (refusing line (Read why), refl)
+some-piece place piece (Ok statement) line reads = some-statement statement.form line (readings-in-force piece statement reads) (readings-keep piece statement reads)
+some-piece place piece (Err why) line reads = told-fault place piece line why reads
 
 runs-piece : (script : List ℕ) (start end : ℕ) → (whole : Effect) × RunsPiece script start end whole
 runs-piece script start end =
@@ -60,18 +68,23 @@ some-script [] script =
     (record { writes = does.0.writes; status = status_of does.0.is_refused }, record { whole = does.0; runs = does.1; writes = refl; status = refl })
 some-script (word ∷ words) script = (usage_answer, refl)
 
+one-listing : (g : Grammar) (symbol : List ℕ) (size line : ℕ) (said : Option Refused) (one other : Effect) → CheckedListingDoes said g symbol size line one → CheckedListingDoes said g symbol size line other → one ≡ other
+one-listing g symbol size line None one other p q = p ∙ sym q
+one-listing g symbol size line (Some refused) one other p q = Refuses-one line (refusal_of_check refused) one other p q
+
 -- a statement that is read does nothing else
-pub one-statement : (f : Form) (line : ℕ) (one other : Effect) → FormKeeps f → StatementDoes f line one → StatementDoes f line other → one ≡ other
-one-statement (form.List (job.Grammar (class_ref.Written symbol (rules_ref.Written rules) universe) size)) line one other keeps p q =
+pub one-statement : (f : Form) (line : ℕ) (one other : Effect) → FormIsInForce f → FormKeeps f → StatementDoes f line one → StatementDoes f line other → one ≡ other
+one-statement form.Empty line one other in_force keeps p q = p ∙ sym q
+one-statement (form.List (job.Grammar (class_ref.Written symbol (rules_ref.Written rules) universe) size)) line one other in_force keeps p q =
     let g : Grammar = record { rules = rules; universe = universe } in
     let same = says_one g (Some symbol) p.said q.said keeps p.checks q.checks in
-    p.does ∙ ap (λ (said : Option Refused). effect_of_listing said g symbol size line) same ∙ sym q.does
-one-statement other_form line one other keeps p q = p ∙ sym q
+    one-listing g symbol size line q.said one other (subst (λ (said : Option Refused). CheckedListingDoes said g symbol size line one) same p.does) q.does
+one-statement other_form line one other in_force keeps p q = absurd in_force
 
 one-reading : (place : Place) (piece : List ℕ) (reading : Result Statement ReadRefused) (line : ℕ) (one other : Effect) → Answers place piece reading
     → PieceDoes reading line one → PieceDoes reading line other → one ≡ other
-one-reading place piece (Ok statement) line one other reads p q = one-statement statement.form line one other (readings-keep piece statement reads) p q
-one-reading place piece (Err why) line one other reads p q = p ∙ sym q
+one-reading place piece (Ok statement) line one other reads p q = one-statement statement.form line one other (readings-in-force piece statement reads) (readings-keep piece statement reads) p q
+one-reading place piece (Err why) line one other reads p q = Refuses-one line (refusal_of_reading why) one other p q
 
 one-piece : (script : List ℕ) (start end : ℕ) (one other : Effect) → RunsPiece script start end one → RunsPiece script start end other → one ≡ other
 one-piece script start end one other p q =

@@ -1,7 +1,11 @@
 -- The answer to words and a script: what is written to the two outputs, and the status.
 use Rattle.std.specs.Prelude.{◌≡◌, ◌⊎◌, ℕ, ◌+◌, ◌<◌, ◌≤◌, Bool, true, false, ◌||◌, nat_lt, List, [], ◌∷◌, ◌++◌, length, take, drop, slice_range, codes, Option, Some, None, Result, Ok, Err, if◌then◌else◌}
+use Rattle.spec_syntax.specs.declared.statement.Universe.{Universe}
+use Rattle.spec_syntax.specs.declared.statement.RulesRef.{RulesRef}
 use Rattle.spec_syntax.specs.declared.statement.RulesRef.TheVariants as rules_ref
+use Rattle.spec_syntax.specs.declared.statement.ClassRef.{ClassRef}
 use Rattle.spec_syntax.specs.declared.statement.ClassRef.TheVariants as class_ref
+use Rattle.spec_syntax.specs.declared.statement.Job.{Job}
 use Rattle.spec_syntax.specs.declared.statement.Job.TheVariants as job
 use Rattle.spec_syntax.specs.declared.statement.Form.{Form}
 use Rattle.spec_syntax.specs.declared.statement.Form.TheVariants as form
@@ -11,7 +15,6 @@ use Rattle.spec_syntax.specs.Grammar as syntax
 use Rattle.spec_reader.specs.declared.place.Place.{Place}
 use Rattle.spec_reader.specs.declared.refusal.Which.TheVariants as which
 use Rattle.spec_reader.specs.declared.refusal.ReadRefused.{ReadRefused}
-use Rattle.spec_reader.specs.declared.refusal.ReadRefused.TheVariants as read
 use Rattle.spec_reader.specs.Cutting.{first_piece_of}
 use Rattle.spec_reader.specs.Places.{place_behind}
 use Rattle.spec_reader.specs.Reading.{Answers}
@@ -23,10 +26,10 @@ use Rattle.well_founded.specs.declared.refused.Refused.{Refused}
 use Rattle.well_founded.specs.WellFounded.{Checks}
 use Rattle.comb_io.specs.Writes.{Write, to_out, to_err}
 use Rattle.combstruct_cli.specs.declared.refusal.Refusal.{Refusal}
-use Rattle.combstruct_cli.specs.declared.refusal.Refusal.TheVariants.{Read, Grammar}
+use Rattle.combstruct_cli.specs.declared.refusal.Refusal.TheVariants as refusal
 use Rattle.combstruct_cli.specs.declared.run.Status.{Status}
 use Rattle.combstruct_cli.specs.declared.run.Status.TheVariants as status
-use Rattle.combstruct_cli.specs.Refusals.{refusal_line}
+use Rattle.combstruct_cli.specs.Refusals.{refusal_line, refusal_of_reading, refusal_of_check}
 
 -- what a part of a script does: its writes, and whether it is refused
 pub record Effect : Type 0 where
@@ -40,37 +43,63 @@ abbrev pub writing : List ℕ → Effect
 writing text = record { writes = to_out text; is_refused = false }
 
 abbrev pub refusing : ℕ → Refusal → Effect
-refusing line refusal = record { writes = to_err (refusal_line line refusal); is_refused = true }
+refusing line why = record { writes = to_err (refusal_line line why); is_refused = true }
 
 -- one after the other
 abbrev pub followed_by : Effect → Effect → Effect
 followed_by first second = record { writes = first.writes ++ second.writes; is_refused = first.is_refused || second.is_refused }
 
+-- a refusal is told in this line; want of memory tells none
+abbrev pub Refuses : ℕ → Option Refusal → Effect → Type 0
+Refuses line (Some why) whole = whole ≡ refusing line why
+Refuses line None whole = ⊥
+
 -- the texts of the structures of a class of a size, in brackets
 abbrev pub listing_text : syntax.Grammar → List ℕ → ℕ → List ℕ
 listing_text g symbol size = codes "[" ++ maple_parts g.rules (parts_of (listing g (Name symbol) (supply g.universe size))) ++ codes "]\n"
 
--- what `allstructs` of a class at a size does, in a statement that begins in this line, where the check says this of the class
-abbrev pub effect_of_listing : Option Refused → syntax.Grammar → List ℕ → ℕ → ℕ → Effect
-effect_of_listing None g symbol size line = writing (listing_text g symbol size)
-effect_of_listing (Some refused) g symbol size line = refusing line (Grammar refused)
+-- `allstructs` of a class at a size does this, in a statement that begins in this line, where the check says this of the class
+abbrev pub CheckedListingDoes : Option Refused → syntax.Grammar → List ℕ → ℕ → ℕ → Effect → Type 0
+CheckedListingDoes None g symbol size line whole = whole ≡ writing (listing_text g symbol size)
+CheckedListingDoes (Some refused) g symbol size line whole = Refuses line (refusal_of_check refused) whole
 
 -- `allstructs` of a class at a size does this, in a statement that begins in this line
 pub record ListingDoes (g : syntax.Grammar) (symbol : List ℕ) (size line : ℕ) (whole : Effect) : Type 0 where
   pub said : Option Refused
   pub checks : Checks g (Some symbol) said
-  pub does : whole ≡ effect_of_listing said g symbol size line
+  pub does : CheckedListingDoes said g symbol size line whole
 
--- a statement that begins in this line does this. Of the other statements only the empty one is read yet, which does nothing
+abbrev pub ListingOfRulesDoes : List ℕ → RulesRef → Universe → ℕ → ℕ → Effect → Type 0
+ListingOfRulesDoes symbol (rules_ref.Written rules) universe size line whole = ListingDoes (record { rules = rules; universe = universe }) symbol size line whole
+ListingOfRulesDoes symbol (rules_ref.Bound name) universe size line whole = ⊥
+
+abbrev pub ListingOfClassDoes : ClassRef → ℕ → ℕ → Effect → Type 0
+ListingOfClassDoes (class_ref.Written symbol rules universe) size line whole = ListingOfRulesDoes symbol rules universe size line whole
+ListingOfClassDoes (class_ref.Bound name) size line whole = ⊥
+
+abbrev pub ListingOfJobDoes : Job → ℕ → Effect → Type 0
+ListingOfJobDoes (job.Grammar class size) line whole = ListingOfClassDoes class size line whole
+ListingOfJobDoes (job.Ready family over size) line whole = ⊥
+
+-- a statement that begins in this line does this. What isn't in force is never read, so no effect is stated of it
 abbrev pub StatementDoes : Form → ℕ → Effect → Type 0
-StatementDoes (form.List (job.Grammar (class_ref.Written symbol (rules_ref.Written rules) universe) size)) line whole =
-    ListingDoes (record { rules = rules; universe = universe }) symbol size line whole
-StatementDoes other line whole = whole ≡ nothing
+StatementDoes form.Empty line whole = whole ≡ nothing
+StatementDoes (form.Rules name rules) line whole = ⊥
+StatementDoes (form.Class name class) line whole = ⊥
+StatementDoes (form.Iterate name work cursor) line whole = ⊥
+StatementDoes (form.Count work) line whole = ⊥
+StatementDoes (form.List work) line whole = ListingOfJobDoes work line whole
+StatementDoes (form.Draw work) line whole = ⊥
+StatementDoes (form.Next name) line whole = ⊥
+StatementDoes (form.Finished name) line whole = ⊥
+StatementDoes (form.Cursor name) line whole = ⊥
+StatementDoes (form.Rest name) line whole = ⊥
+StatementDoes (form.Equations rules universe variable) line whole = ⊥
 
 -- a piece that begins in this line does this, as it reads
 abbrev pub PieceDoes : Result Statement ReadRefused → ℕ → Effect → Type 0
 PieceDoes (Ok statement) line whole = StatementDoes statement.form line whole
-PieceDoes (Err why) line whole = whole ≡ refusing line (Read why)
+PieceDoes (Err why) line whole = Refuses line (refusal_of_reading why) whole
 
 abbrev pub first_place : Place
 first_place = record { line = 1; column = 1 }
@@ -84,11 +113,11 @@ abbrev pub most_bytes : ℕ
 most_bytes = 16777216
 
 abbrev pub refusing_syntax : Place → Effect
-refusing_syntax place = refusing place.line (Read (read.Syntax place.line place.column))
+refusing_syntax place = refusing place.line (refusal.Syntax place.line place.column)
 
 -- a script of too many bytes is refused in the line of the first byte that is too many
 abbrev pub refusing_long : List ℕ → Effect
-refusing_long script = if nat_lt most_bytes (length script) then refusing (place_in script most_bytes).line (Read (read.Limit which.Script)) else nothing
+refusing_long script = if nat_lt most_bytes (length script) then refusing (place_in script most_bytes).line (refusal.Limit which.Script) else nothing
 
 -- a second piece that begins at this place is refused there, where that is early enough
 abbrev pub refusing_second : List ℕ → ℕ → Effect

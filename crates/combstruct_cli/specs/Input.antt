@@ -1,19 +1,6 @@
 -- What taking bytes from a source does.
-use Rattle.std.specs.Prelude.{◌≡◌, ℕ, ◌≤◌, ◌<◌, ⊤, List, [], ◌++◌, length, Option, Some, None, IfErr, Result}
+use Rattle.std.specs.Prelude.{◌≡◌, ℕ, ◌≤◌, ◌<◌, List, [], ◌++◌, length, Option, Some, None}
 use Rattle.std.specs.Io.KnownBytes.{Consumes, IsAtEnd}
-use Rattle.comb_io.specs.Faults.{Rose}
-use Rattle.combstruct_cli.specs.declared.input.InputFault.{InputFault}
-use Rattle.combstruct_cli.specs.declared.input.InputFault.TheVariants.{Failed, Memory}
-
--- P where the source failed; want of memory is free
-abbrev pub OnFailed : InputFault → Type 0 → Type 0
-OnFailed Failed P = P
-OnFailed Memory P = ⊤
-
--- the count of faults of a source: it doesn't fall, and it rose where the source failed
-pub record HasInputCause {A : Type 0} (before now : ℕ) (result : Result A InputFault) : Type 0 where
-  pub later : before ≤ now
-  pub failed : IfErr result (λ fault. OnFailed fault (Rose before now))
 
 -- so many bytes were taken from the source, and stand at the end of the list
 pub record Took (left left' : Option (List ℕ)) (old new : List ℕ) (count : ℕ) : Type 0 where

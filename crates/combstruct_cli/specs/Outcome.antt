@@ -1,36 +1,73 @@
--- How a run and its parts end: what was written by then, and why it may have ended early.
-use Rattle.std.specs.Prelude.{◌≡◌, ℕ, ◌≤◌, ◌⊎◌, ⊤, Bool, true, false, List, Option, IfErr, Result, Ok, Err}
+-- How a run and its parts end: what was written by then, and whose count of faults rose.
+use Rattle.std.specs.Prelude.{◌≡◌, ℕ, ◌≤◌, ◌⊎◌, Bool, true, false, List, Option, Result, Ok, Err}
 use Rattle.comb_io.specs.Faults.{Rose}
-use Rattle.comb_io.specs.Writes.{Wrote, WrotePrefix, WroteProperPrefix}
-use Rattle.comb_io.specs.declared.sinks.SinkFault.{SinkFault}
-use Rattle.comb_io.specs.declared.sinks.SinkFault.TheVariants as sink
+use Rattle.comb_io.specs.Writes.{Wrote, WrotePart, WrotePrefix, WroteProperPrefix}
+use Rattle.combstruct_cli.specs.declared.fault.Fault.{Fault}
+use Rattle.combstruct_cli.specs.declared.fault.Fault.TheVariants as fault
 use Rattle.combstruct_cli.specs.declared.run.Outcome.{Outcome}
 use Rattle.combstruct_cli.specs.declared.run.Outcome.TheVariants.{Done, Refused}
 use Rattle.combstruct_cli.specs.declared.run.Status.{Status}
 use Rattle.combstruct_cli.specs.declared.run.Status.TheVariants as status
 use Rattle.combstruct_cli.specs.Answer.{Effect, Answer}
-use Rattle.combstruct_cli.specs.declared.run.RunFault.{RunFault}
-use Rattle.combstruct_cli.specs.declared.run.RunFault.TheVariants.{Output, Memory}
 
-abbrev pub run_fault : SinkFault → RunFault
-run_fault sink.Failed = Output
-run_fault sink.Memory = Memory
+-- ---- whose fault it was
 
--- P where a sink failed; want of memory is free
-abbrev pub OnOutput : RunFault → Type 0 → Type 0
-OnOutput Output P = P
-OnOutput Memory P = ⊤
-
--- the count of faults of the error output doesn't fall, and it rose where a sink failed
-pub record HasErrCause {A : Type 0} (before now : ℕ) (result : Result A RunFault) : Type 0 where
+-- the count of faults of an object rose, and didn't fall
+pub record Rises (before now : ℕ) : Type 0 where
   pub later : before ≤ now
-  pub failed : IfErr result (λ fault. OnOutput fault (Rose before now))
+  pub rose : Rose before now
 
--- neither count of faults falls, and one of them rose where a sink failed
-pub record HasRunCause {A : Type 0} (out out' err err' : ℕ) (result : Result A RunFault) : Type 0 where
-  pub out_later : out ≤ out'
-  pub err_later : err ≤ err'
-  pub failed : IfErr result (λ fault. OnOutput fault (Rose out out' ⊎ Rose err err'))
+-- the counts of faults of the source, of the output and of the error output are as they were
+abbrev pub NoneRises : ℕ → ℕ → ℕ → ℕ → ℕ → ℕ → Type 0
+NoneRises input input' out out' err err' = (input' ≡ input) × (out' ≡ out) × (err' ≡ err)
+
+-- the count of the object whose fault it was rose, and no other
+abbrev pub Blames : ℕ → ℕ → ℕ → ℕ → ℕ → ℕ → Fault → Type 0
+Blames input input' out out' err err' fault.Input = Rises input input' × (out' ≡ out) × (err' ≡ err)
+Blames input input' out out' err err' fault.Output = (input' ≡ input) × Rises out out' × (err' ≡ err)
+Blames input input' out out' err err' fault.Errors = (input' ≡ input) × (out' ≡ out) × Rises err err'
+Blames input input' out out' err err' fault.Memory = NoneRises input input' out out' err err'
+
+-- the counts at the end of a part of a run
+abbrev pub HasRunCause : {A : Type 0} → ℕ → ℕ → ℕ → ℕ → ℕ → ℕ → Result A Fault → Type 0
+HasRunCause input input' out out' err err' (Ok _) = NoneRises input input' out out' err err'
+HasRunCause input input' out out' err err' (Err whose) = Blames input input' out out' err err' whose
+
+abbrev pub fault_status : Fault → Status
+fault_status fault.Input = status.Input
+fault_status fault.Output = status.Output
+fault_status fault.Errors = status.Output
+fault_status fault.Memory = status.Memory
+
+abbrev pub end_status : Result Outcome Fault → Status
+end_status (Ok Done) = status.Well
+end_status (Ok Refused) = status.SomeRefused
+end_status (Err whose) = fault_status whose
+
+-- the counts at the end of a run, by its status: at 3 that of the source rose and no other, at 4 that of one of the two
+-- outputs and no other, and at any other status none
+abbrev pub HasStatusCause : ℕ → ℕ → ℕ → ℕ → ℕ → ℕ → Status → Type 0
+HasStatusCause input input' out out' err err' status.Well = NoneRises input input' out out' err err'
+HasStatusCause input input' out out' err err' status.SomeRefused = NoneRises input input' out out' err err'
+HasStatusCause input input' out out' err err' status.Words = NoneRises input input' out out' err err'
+HasStatusCause input input' out out' err err' status.Input = Blames input input' out out' err err' fault.Input
+HasStatusCause input input' out out' err err' status.Output = Blames input input' out out' err err' fault.Output ⊎ Blames input input' out out' err err' fault.Errors
+HasStatusCause input input' out out' err err' status.Memory = NoneRises input input' out out' err err'
+
+-- the count of faults shows none
+abbrev pub DidNotRise : ℕ → ℕ → Type 0
+DidNotRise before now = Rose before now → ⊥
+
+-- the exit status of the program
+abbrev pub status_code : Status → ℕ
+status_code status.Well = 0
+status_code status.SomeRefused = 1
+status_code status.Words = 2
+status_code status.Input = 3
+status_code status.Output = 4
+status_code status.Memory = 5
+
+-- ---- what was written
 
 abbrev pub outcome_of : Bool → Outcome
 outcome_of true = Refused
@@ -41,11 +78,17 @@ abbrev pub either : Outcome → Outcome → Outcome
 either Done other = other
 either Refused other = Refused
 
+-- how many writes at least weren't made where this fault ended a part of a run: one where a write failed
+abbrev pub unwritten_by : Fault → ℕ
+unwritten_by fault.Input = 0
+unwritten_by fault.Output = 1
+unwritten_by fault.Errors = 1
+unwritten_by fault.Memory = 0
+
 -- an effect was made: whole, and told so, or a part of its writes from their front, and not all where a sink failed
-abbrev pub Makes : Option (List ℕ) → Option (List ℕ) → Option (List ℕ) → Option (List ℕ) → Effect → Result Outcome RunFault → Type 0
+abbrev pub Makes : Option (List ℕ) → Option (List ℕ) → Option (List ℕ) → Option (List ℕ) → Effect → Result Outcome Fault → Type 0
 Makes out out' err err' e (Ok outcome) = Wrote out out' err err' e.writes × (outcome ≡ outcome_of e.is_refused)
-Makes out out' err err' e (Err Output) = WroteProperPrefix out out' err err' e.writes
-Makes out out' err err' e (Err Memory) = WrotePrefix out out' err err' e.writes
+Makes out out' err err' e (Err whose) = WrotePart (unwritten_by whose) out out' err err' e.writes
 
 -- a run ended with this status: at 0, 1 and 2 the answer was written whole and has this status, at 4 not whole, and at 3
 -- and 5 a part of it from its front
@@ -60,7 +103,3 @@ Ends out out' err err' answer status.Memory = WrotePrefix out out' err err' answ
 -- the answer was written whole, and the status is its status
 abbrev pub Gives : Option (List ℕ) → Option (List ℕ) → Option (List ℕ) → Option (List ℕ) → Answer → Status → Type 0
 Gives out out' err err' answer result = Wrote out out' err err' answer.writes × (result ≡ answer.status)
-
--- the count of faults shows none
-abbrev pub DidNotRise : ℕ → ℕ → Type 0
-DidNotRise before now = Rose before now → ⊥

@@ -3,13 +3,15 @@
 
 ghost use Rattle.std.specs.Prelude.{◌≡◌, ◌≢◌, ◌⊎◌, ◌≤◌, ℕ, List, Option, IfOk, drop};
 ghost use Rattle.std.specs.IoError.{error_kind};
+ghost use Rattle.std.specs.Process.{exit_status};
 ghost use Rattle.std.specs.Vec.Iter.{into_iter_items};
 ghost use Rattle.comb_io.specs.Faults.{Rose};
 ghost use Rattle.combstruct_cli.specs.Answer.{usage_answer};
-ghost use Rattle.combstruct_cli.specs.Outcome.{DidNotRise, Ends, Gives};
+ghost use Rattle.combstruct_cli.specs.Outcome.{DidNotRise, Ends, Gives, HasStatusCause, status_code};
 
 mod column;
 mod components;
+mod fault;
 mod input;
 mod list;
 mod refusal;
@@ -29,10 +31,10 @@ fn main(rt: HostRuntime) -> ExitCode {
     let mut err = StdSink::new(rt.stderr());
     let arguments = match env::args(&rt) {
         Ok(arguments) => arguments,
-        Err(error) => return ExitCode::from(refuse_arguments(&error, &mut err) as u8),
+        Err(error) => return exit_code(refuse_arguments(&error, &mut err)),
     };
     let Ok(words) = words_of(rt.alloc(), arguments) else {
-        return ExitCode::from(Status::Memory as u8);
+        return exit_code(Status::Memory);
     };
     let mut input = StdSource::new(rt.stdin());
     let mut shelf = SureShelf::new(&[]);
@@ -45,6 +47,13 @@ fn main(rt: HostRuntime) -> ExitCode {
         &mut out,
         &mut err,
     );
+    exit_code(status)
+}
+
+/// The code that the program ends with.
+fn exit_code(status: Status) -> ExitCode
+    ensures { exit_status result ≡ status_code status }
+{
     ExitCode::from(status as u8)
 }
 
@@ -57,6 +66,7 @@ fn refuse_arguments<E: Sink>(error: &io::Error, err: &mut E) -> Status
     ensures status { error_kind error.now ≡ ErrorKind.InvalidData → (result ≡ Status.Words) ⊎ (result ≡ Status.Output) ⊎ (result ≡ Status.Memory) }
     ensures output { result ≡ Status.Output → Rose (E.faults err.old) (E.faults err.new) }
     ensures later { E.faults err.old ≤ E.faults err.new }
+    ensures faults { (input out : ℕ) → HasStatusCause input input out out (E.faults err.old) (E.faults err.new) result }
     ensures memory { error_kind error.now ≢ ErrorKind.InvalidData → (result ≡ Status.Memory) × (err.new ≡ err.old) }
 {
     match error.kind() {

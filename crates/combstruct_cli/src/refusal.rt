@@ -1,6 +1,6 @@
 //! Refusals, and the lines that tell them.
 ghost use Rattle.std.specs.Prelude.{◌≡◌, ◌++◌, OnOk, ℕ, List, decimal};
-ghost use Rattle.combstruct_cli.specs.Refusals.{which_word, refusal_number, read_text, grammar_text, refusal_text, refusal_line};
+ghost use Rattle.combstruct_cli.specs.Refusals.{refusal_of_reading, refusal_of_check, which_word, refusal_number, refusal_text, refusal_line};
 
 use itoa::Buffer;
 use spec_reader::{ReadRefused, Which};
@@ -8,13 +8,56 @@ use spec_syntax::{Bytes, Name};
 use std::alloc::AllocError;
 use well_founded::Refused;
 
-/// Why a piece of a script is refused.
+/// Why a piece of a script is refused: what a line tells.
 #[derive(Drop)]
 pub(crate) enum Refusal {
-    /// It is not read as a statement.
-    Read(ReadRefused),
-    /// Its class is refused by the check of grammars.
-    Grammar(Refused),
+    /// The syntax is at fault at this line and column.
+    Syntax(u32, u32),
+    /// A specification has two rules of this name.
+    DuplicateRule(Name),
+    /// A limit is passed.
+    Limit(Which),
+    /// The piece isn't UTF-8.
+    NotText,
+    /// This name is used and has no rule.
+    Undefined(Name),
+    /// This rule has no structure.
+    Unproductive(Name),
+    /// This rule holds a container over a class with a structure of size 0.
+    NullElement(Name),
+    /// This rule has endlessly many structures of this size.
+    Endless(Name, u32),
+    /// This rule holds a Cycle, and the universe is unlabelled.
+    CycleUnlabelled(Name),
+}
+
+impl Refusal {
+    /// The refusal of a piece that isn't read, and none where memory is wanting.
+    pub(crate) fn of_reading(refused: ReadRefused) -> Option<Refusal>
+        ensures { result ≡ refusal_of_reading refused }
+    {
+        match refused {
+            ReadRefused::Syntax(line, column) => Some(Refusal::Syntax(line, column)),
+            ReadRefused::DuplicateRule(name) => Some(Refusal::DuplicateRule(name)),
+            ReadRefused::Limit(which) => Some(Refusal::Limit(which)),
+            ReadRefused::NotText => Some(Refusal::NotText),
+            ReadRefused::Memory => None,
+        }
+    }
+
+    /// The refusal of a class that doesn't pass the check, and none where memory is wanting.
+    pub(crate) fn of_check(refused: Refused) -> Option<Refusal>
+        ensures { result ≡ refusal_of_check refused }
+    {
+        match refused {
+            Refused::Undefined(name) => Some(Refusal::Undefined(name)),
+            Refused::CycleUnlabelled(name) => Some(Refusal::CycleUnlabelled(name)),
+            Refused::Unproductive(name) => Some(Refusal::Unproductive(name)),
+            Refused::NullElement(name) => Some(Refusal::NullElement(name)),
+            Refused::Endless(name, size) => Some(Refusal::Endless(name, size)),
+            Refused::Memory => None,
+        }
+    }
 }
 
 /// The word of a limit.
@@ -39,17 +82,15 @@ fn refusal_number(refusal: &Refusal) -> u32
     ensures { result ≡ refusal_number refusal.now }
 {
     match refusal {
-        Refusal::Read(ReadRefused::Syntax(_, _)) => 1,
-        Refusal::Read(ReadRefused::DuplicateRule(_)) => 2,
-        Refusal::Read(ReadRefused::Limit(_)) => 3,
-        Refusal::Read(ReadRefused::NotText) => 4,
-        Refusal::Read(ReadRefused::Memory) => 0,
-        Refusal::Grammar(Refused::Undefined(_)) => 20,
-        Refusal::Grammar(Refused::CycleUnlabelled(_)) => 26,
-        Refusal::Grammar(Refused::Unproductive(_)) => 22,
-        Refusal::Grammar(Refused::NullElement(_)) => 23,
-        Refusal::Grammar(Refused::Endless(_, _)) => 24,
-        Refusal::Grammar(Refused::Memory) => 0,
+        Refusal::Syntax(_, _) => 1,
+        Refusal::DuplicateRule(_) => 2,
+        Refusal::Limit(_) => 3,
+        Refusal::NotText => 4,
+        Refusal::Undefined(_) => 20,
+        Refusal::Unproductive(_) => 22,
+        Refusal::NullElement(_) => 23,
+        Refusal::Endless(_, _) => 24,
+        Refusal::CycleUnlabelled(_) => 26,
     }
 }
 
@@ -71,7 +112,7 @@ fn push_around(before: &[u8], name: &Name, after: &[u8], text: &mut Bytes) -> Re
 
 /// Appends where the syntax is at fault.
 fn push_syntax(line: u32, column: u32, text: &mut Bytes) -> Result<(), AllocError>
-    ensures { OnOk result (text.new ≡ text.old ++ read_text (ReadRefused.Syntax line column)) }
+    ensures { OnOk result (text.new ≡ text.old ++ refusal_text (Refusal.Syntax line column)) }
 {
     text.extend_from_slice(b"syntax at line ")?;
     push_number(line, text)?;
@@ -79,27 +120,9 @@ fn push_syntax(line: u32, column: u32, text: &mut Bytes) -> Result<(), AllocErro
     push_number(column, text)
 }
 
-/// Appends why a piece is not read.
-fn push_read_reason(refused: &ReadRefused, text: &mut Bytes) -> Result<(), AllocError>
-    ensures { OnOk result (text.new ≡ text.old ++ read_text refused.now) }
-{
-    match refused {
-        ReadRefused::Syntax(line, column) => push_syntax(*line, *column, text),
-        ReadRefused::DuplicateRule(name) => {
-            push_around(b"rule ", name, b" is written twice", text)
-        }
-        ReadRefused::Limit(which) => {
-            text.extend_from_slice(b"limit ")?;
-            text.extend_from_slice(which_word(*which))
-        }
-        ReadRefused::NotText => text.extend_from_slice(b"not UTF-8"),
-        ReadRefused::Memory => Ok(()),
-    }
-}
-
 /// Appends which rule has endlessly many structures, and of which size.
 fn push_endless(name: &Name, size: u32, text: &mut Bytes) -> Result<(), AllocError>
-    ensures { OnOk result (text.new ≡ text.old ++ grammar_text (Refused.Endless name.now size)) }
+    ensures { OnOk result (text.new ≡ text.old ++ refusal_text (Refusal.Endless name.now size)) }
 {
     push_around(
         b"rule ",
@@ -110,34 +133,30 @@ fn push_endless(name: &Name, size: u32, text: &mut Bytes) -> Result<(), AllocErr
     push_number(size, text)
 }
 
-/// Appends why a grammar is refused.
-fn push_grammar_reason(refused: &Refused, text: &mut Bytes) -> Result<(), AllocError>
-    ensures { OnOk result (text.new ≡ text.old ++ grammar_text refused.now) }
-{
-    match refused {
-        Refused::Undefined(name) => push_around(b"no rule for ", name, b"", text),
-        Refused::CycleUnlabelled(name) => {
-            push_around(b"Cycle in an unlabelled grammar, rule ", name, b"", text)
-        }
-        Refused::Unproductive(name) => push_around(b"rule ", name, b" has no structure", text),
-        Refused::NullElement(name) => push_around(
-            b"rule ",
-            name,
-            b" has a container over a class with a structure of size 0",
-            text,
-        ),
-        Refused::Endless(name, size) => push_endless(name, *size, text),
-        Refused::Memory => Ok(()),
-    }
-}
-
 /// Appends what a refusal says.
 fn push_reason(refusal: &Refusal, text: &mut Bytes) -> Result<(), AllocError>
     ensures { OnOk result (text.new ≡ text.old ++ refusal_text refusal.now) }
 {
     match refusal {
-        Refusal::Read(refused) => push_read_reason(refused, text),
-        Refusal::Grammar(refused) => push_grammar_reason(refused, text),
+        Refusal::Syntax(line, column) => push_syntax(*line, *column, text),
+        Refusal::DuplicateRule(name) => push_around(b"rule ", name, b" is written twice", text),
+        Refusal::Limit(which) => {
+            text.extend_from_slice(b"limit ")?;
+            text.extend_from_slice(which_word(*which))
+        }
+        Refusal::NotText => text.extend_from_slice(b"not UTF-8"),
+        Refusal::Undefined(name) => push_around(b"no rule for ", name, b"", text),
+        Refusal::Unproductive(name) => push_around(b"rule ", name, b" has no structure", text),
+        Refusal::NullElement(name) => push_around(
+            b"rule ",
+            name,
+            b" has a container over a class with a structure of size 0",
+            text,
+        ),
+        Refusal::Endless(name, size) => push_endless(name, *size, text),
+        Refusal::CycleUnlabelled(name) => {
+            push_around(b"Cycle in an unlabelled grammar, rule ", name, b"", text)
+        }
     }
 }
 

@@ -1,6 +1,6 @@
-use Rattle.std.proofs.Common.{List, ℕ, subst}
+use Rattle.std.proofs.Common.{List, ℕ, subst, arith}
 use Rattle.comb_io.specs.Parts.{AppendsProperPrefix}
-use Rattle.comb_io.proofs.Written.{WrotePrefix-proper, WrotePart-to_err}
+use Rattle.comb_io.proofs.Written.{WrotePart-fewer, WrotePart-to_err}
 use Rattle.combstruct_cli.specs.Answer.{usage}
 use Rattle.combstruct_cli.proofs.run.refuse_words.Goals as goal
 
@@ -16,4 +16,4 @@ returns-in-Err-Memory-clause-answer g c =
     λ out.
     let err = g.E.Sink.written c.args.err.now in
     let err' = g.E.Sink.written c.write_all.new.sink in
-    WrotePrefix-proper (WrotePart-to_err out err err' usage (subst (λ (text : List ℕ). AppendsProperPrefix err err' text) c.as_bytes.ensures.value c.in-Err-Memory.ensures.part))
+    WrotePart-fewer (omega arith) (WrotePart-to_err out err err' usage (subst (λ (text : List ℕ). AppendsProperPrefix err err' text) c.as_bytes.ensures.value c.in-Err-Memory.ensures.part))

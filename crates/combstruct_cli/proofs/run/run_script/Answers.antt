@@ -31,3 +31,9 @@ returns-clause-makes g c =
     let P : Option (ℕ × ℕ) → Type 0 = λ first. RunsFirst c.args.script.now first whole in
     ⊎_elim (λ early. c.run_first.ensures.makes whole early.1) (λ late. absurd (omega (arith, late.0, c.if-end-gt-MOST_BYTES.false)))
     (subst P (sym c.in-Some.ensures.piece) runs)
+
+pub returns-in_default-clause-cause : goal.returns-in_default-clause-cause
+returns-in_default-clause-cause g c = λ input. c.refuse_long.ensures.cause input (g.O.Sink.faults c.args.out.now)
+
+pub returns-then-end-gt-MOST_BYTES-clause-cause : goal.returns-then-end-gt-MOST_BYTES-clause-cause
+returns-then-end-gt-MOST_BYTES-clause-cause g c = λ input. c.refuse_long-then-end-gt-MOST_BYTES.ensures.cause input (g.O.Sink.faults c.args.out.now)
