@@ -1,22 +1,15 @@
 -- Columns, size by size.
 use Rattle.std.proofs.Common.{◌≡◌, ℕ, zero, suc, ◌+◌, ◌<◌, ◌≤◌, List, [], ◌∷◌, ◌++◌, map, length, All, subst, slice_get, unwrap_or, Option, Some, None, refl, sym, ap, ◌∙◌, arith}
 use Rattle.std.specs.List.{range_with_len}
-use Rattle.std.proofs.lemmas.List.FromFn.{length-map-range_with_len}
-use Rattle.std.proofs.lemmas.List.{map-append}
-use Rattle.listing_laws.proofs.CallerLemmas.{range-append}
+use Rattle.std.proofs.lemmas.Simd.{map-map}
+use Rattle.std.proofs.lemmas.List.FromFn.{length-map-range_with_len, map-range_with_len_more}
 use Rattle.combstruct_cli.specs.Columns.{of_size, column_to}
-
-range_end : (n : ℕ) → range_with_len 0 (n + 1) ≡ range_with_len 0 n ++ n ∷ []
-range_end n = range-append 0 n 1 ∙ ap (λ (k : ℕ). range_with_len 0 n ++ k ∷ []) (from_zero n)
-  where
-    from_zero : (k : ℕ) → 0 + k ≡ k
-    from_zero k = omega arith
 
 -- a column with one more size
 pub column_step : {X : Type 0} (lists : ℕ → List X) (old new : List (List X)) (more : List X) (size : ℕ)
     → new ≡ old ++ more ∷ [] → more ≡ lists size → old ≡ map lists (range_with_len 0 size) → new ≡ map lists (range_with_len 0 (size + 1))
 column_step lists old new more size grown here so_far =
-    grown ∙ (λ i. so_far i ++ here i ∷ []) ∙ sym (map-append lists (range_with_len 0 size) (size ∷ [])) ∙ ap (map lists) (sym (range_end size))
+    grown ∙ (λ i. so_far i ++ here i ∷ []) ∙ sym (map-range_with_len_more lists 0 size size (omega arith))
 
 -- and it ends with the greatest size
 pub column_last : {X : Type 0} (lists : ℕ → List X) (old new : List (List X)) (more : List X) (size most : ℕ)
@@ -65,13 +58,9 @@ column_agree p q most same = by 0 (most + 1) (λ k high. same k (omega (arith, h
 pub column_same : {X : Type 0} (p q : ℕ → List X) (most : ℕ) → ((k : ℕ) → p k ≡ q k) → column_to p most ≡ column_to q most
 column_same p q most same = λ i. column_to (λ size. same size i) most
 
-map_twice : {X Y Z : Type 0} (f : Y → Z) (g : X → Y) (xs : List X) → map f (map g xs) ≡ map (λ x. f (g x)) xs
-map_twice f g [] = refl
-map_twice f g (x ∷ xs) = ap (λ ys. f (g x) ∷ ys) (map_twice f g xs)
-
 -- what is made of each size of a column
 pub mapped_column : {X Y : Type 0} (f : List X → List Y) (lists : ℕ → List X) (most : ℕ) → map f (column_to lists most) ≡ column_to (λ size. f (lists size)) most
-mapped_column f lists most = map_twice f lists (range_with_len 0 (most + 1))
+mapped_column f lists most = map-map f lists (range_with_len 0 (most + 1))
 
 -- those of one size of some columns
 pub columns_at : {X : Type 0} (f : ℕ → ℕ → List X) (most size : ℕ) → size ≤ most → (ms : List ℕ)

@@ -12,3 +12,4 @@ pub mod SplitLemmas
 pub mod KindLemmas
 pub mod ProdLemmas
 pub mod SequenceLemmas
+pub mod Measures

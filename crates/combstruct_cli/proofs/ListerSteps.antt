@@ -1,15 +1,10 @@
 -- What the listing code needs at each step.
 use Rattle.std.proofs.Common.{◌≡◌, ℕ, zero, suc, slice_get, unwrap_or, Option, Some, ◌+◌, ◌-◌, ◌<◌, ◌≤◌, List, [], ◌∷◌, ◌++◌, length, take, get_or, map, sym, ap, ◌∙◌, arith}
 use Rattle.std.proofs.lemmas.List.{take_all, length-map, map_more}
-use Rattle.std.proofs.lemmas.Option.{slice_get_within}
+use Rattle.std.proofs.lemmas.Option.{slice_get_within, get_or_from_slice_get}
 use Rattle.struct_model.specs.Structure.{Structure, Alt}
 use Rattle.listing_laws.specs.Lister.{alternatives}
-use Rattle.listing_laws.proofs.RecursionLemmas.{alternatives-map_more}
-
-got : {X : Type 0} (xs : List X) (i : ℕ) (x : X) → slice_get xs i ≡ Some x → get_or xs i x ≡ x
-got [] i x at = absurd (cc)
-got (y ∷ xs) zero x at = cc
-got (y ∷ xs) (suc i) x at = got xs i x at
+use Rattle.listing_laws.proofs.CallerLemmas.{alternatives-map_more}
 
 -- what stands at a place of what is made of each child
 pub made_at : {X : Type 0} (column_of : ℕ → X) (columns : List X) (children : List ℕ) (place child : ℕ) (column : X) → columns ≡ map column_of children
@@ -28,7 +23,7 @@ pub columns_step : {X : Type 0} (column_of : ℕ → X) (old new : List X) (more
     → old ≡ map column_of (take place children) → new ≡ map column_of (take (place + 1) children)
 columns_step column_of old new more children place child grown here at so_far =
     grown ∙ (λ i. so_far i ++ here i ∷ [])
-    ∙ ap (λ (k : ℕ). map column_of (take place children) ++ column_of k ∷ []) (sym (got children place child at))
+    ∙ ap (λ (k : ℕ). map column_of (take place children) ++ column_of k ∷ []) (sym (get_or_from_slice_get children place child child at))
     ∙ sym (map_more column_of children place child (slice_get_within children place child at))
 
 -- the alternatives of one more argument

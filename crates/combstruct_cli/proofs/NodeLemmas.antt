@@ -21,15 +21,15 @@ use Rattle.well_founded.specs.declared.node.NodeKind.TheVariants as told
 use Rattle.spec_syntax.specs.Nodes.{node_at, right_node, children_of, below, children_at, name_of, name_at, arguments_of}
 use Rattle.well_founded.specs.NodeKinds.{kind_of}
 use Rattle.spec_syntax.proofs.NodesLemmas.{in_nodes, child_node, length-children_of, right_node_is}
-use Rattle.well_founded.specs.Sizes.{IsLeast}
-use Rattle.well_founded.specs.Rank.{IsRank}
+use Rattle.well_founded.specs.Sizes.{IsLeast, no_least}
+use Rattle.well_founded.specs.Rank.{IsRank, CanHaveAll}
 use Rattle.well_founded.specs.SameSize.{is_told_inside}
 use Rattle.well_founded.specs.Checked.{Checked, grammar}
 use Rattle.lists.proofs.Positions.{slice_some}
 use Rattle.well_founded.proofs.LeastRounds.{right_of}
+use Rattle.well_founded.proofs.RankFalls.{falls_by_sizes}
 use Rattle.listing_laws.specs.Lister.{list_epsilon, list_atom, alternatives, named}
 use Rattle.listing_laws.proofs.Between.{none_below}
-use Rattle.listing_laws.proofs.Filled.{same_size_is_filled}
 use Rattle.listing_laws.proofs.Recursion.{listings_recur}
 use Rattle.combstruct_cli.specs.Columns.{only_at, only_label, alternatives_at}
 use Rattle.combstruct_cli.specs.NodeListing.{IsListable, HasKind, listing_of_node, listing_of_rule, least_at, rank_at, rule_rank, arguments_to}
@@ -200,11 +200,13 @@ module _ (checked : Checked) (ok : IsListable checked) where
   pub rank_within : (node : ℕ) → node < length (all_nodes checked.rules) → rank_at checked node < length (all_nodes checked.rules)
   rank_within node h = let there = node_there node h in (is_rank node there.0 there.1).within
 
+  pub least_entry : (node : ℕ) (e : Expression) → node_at checked.rules node ≡ Some e → slice_get checked.leasts node ≡ Some (least_at checked node)
+  least_entry node e at =
+      let found = slice_some checked.leasts node (omega (arith, ok.passed.least.for_each, slice_get_within (all_nodes checked.rules) node e at)) in
+      found.1 ∙ ap (λ (l : ℕ). Some l) (sym (ap (λ (o : Option ℕ). unwrap_or o 0) found.1))
+
   pub least_is : (node : ℕ) (e : Expression) → node_at checked.rules node ≡ Some e → IsLeast g e (least_at checked node)
-  least_is node e at =
-      let leasts = ok.passed.least in
-      let found = slice_some checked.leasts node (omega (arith, leasts.for_each, slice_get_within (all_nodes checked.rules) node e at)) in
-      leasts.each node (least_at checked node) e at (found.1 ∙ ap (λ (l : ℕ). Some l) (sym (ap (λ (o : Option ℕ). unwrap_or o 0) found.1)))
+  least_is node e at = ok.passed.least.each node (least_at checked node) e at (least_entry node e at)
 
   -- below the least size a node lists nothing
   pub below_least : (node n : ℕ) → n < least_at checked node → listing_of_node checked node n ≡ []
@@ -218,17 +220,25 @@ module _ (checked : Checked) (ok : IsListable checked) where
 
   -- ---- the rank falls
 
+  -- on the way to a node below of which there are structures that can have all the atoms
+  pub falls : (node place child : ℕ) (e f : Expression) → node_at checked.rules node ≡ Some e → slice_get (below checked.rules node e) place ≡ Some child
+      → node_at checked.rules child ≡ Some f → least_at checked child < no_least → CanHaveAll checked.rules checked.leasts node e place child
+      → rank_at checked child < rank_at checked node
+  falls node place child e f at inside there low all =
+      falls_by_sizes checked ok.passed node (rank_at checked node) e at (rank_is node e at) place child (least_at checked child) (rank_at checked child) inside
+      (least_entry child f there) (rank_is child f there) low all
+
   pub rule_falls : (node number : ℕ) → HasKind checked node told.Rule → option_and_then (symbol checked.rules) (name_at checked.rules node) ≡ Some number
-      → rule_rank checked number ≤ rank_at checked node
-  rule_falls node number h found =
+      → least_at checked (right_node checked.rules number) < no_least → rule_rank checked number ≤ rank_at checked node
+  rule_falls node number h found few =
       let rule : NamedRule node number = named_rule node number h found in
       let within = symbol-within checked.rules rule.name number rule.numbered in
       let right = right_there number within.0 within.1 in
-      by node number rule right.0 right.1 (is_told_inside right.0) refl
+      by node number rule right.0 right.1 few (is_told_inside right.0) refl
     where
-      by : (m k : ℕ) (rule : NamedRule m k) (right : Expression) → right_side checked.rules k ≡ Some right → (b : Bool) → is_told_inside right ≡ b
-          → rule_rank checked k ≤ rank_at checked m
-      by m k rule right sided b told_b =
+      by : (m k : ℕ) (rule : NamedRule m k) (right : Expression) → right_side checked.rules k ≡ Some right → least_at checked (right_node checked.rules k) < no_least
+          → (b : Bool) → is_told_inside right ≡ b → rule_rank checked k ≤ rank_at checked m
+      by m k rule right sided few b told_b =
           let rank : rule_rank checked k ≡ (if b then rank_at checked (right_node checked.rules k) + 1 else 0) =
           ap (λ o. option_map_or (λ side. if is_told_inside side then rank_at checked (right_node checked.rules k) + 1 else 0) o 0) sided
           ∙ ap (λ (test : Bool). if test then rank_at checked (right_node checked.rules k) + 1 else 0) told_b in
@@ -242,9 +252,8 @@ module _ (checked : Checked) (ok : IsListable checked) where
               let below_is : slice_get (below checked.rules m (expr.Name rule.name)) 0 ≡ Some (right_node checked.rules k) =
               ap (λ o. slice_get (option_map_or (λ number. right_node checked.rules number ∷ []) o []) 0) rule.numbered in
               let less : rank_at checked (right_node checked.rules k) < rank_at checked m =
-              (is_rank m (expr.Name rule.name) rule.at).falls 0 (right_node checked.rules k) (rank_at checked (right_node checked.rules k)) right below_is there
-              (rank_is (right_node checked.rules k) right there)
-              (same_size_is_filled.name g rule.name k right ok.passed.spec ok.sequences ok.passed.well_founded rule.numbered sided told_b) in
+              falls m 0 (right_node checked.rules k) (expr.Name rule.name) right rule.at below_is there few
+              (λ other also. let same : other ≡ right = cc in ap is_told_inside same ∙ told_b) in
               omega (arith, rank, less)
 
   -- the rank of a rule whose right side is no word
@@ -306,28 +315,12 @@ module _ (checked : Checked) (ok : IsListable checked) where
       ap (alternatives 1) (columns_at (listing_of_node checked) most n within (children_at checked.rules node)) ∙ sym (union_listed node n h)
 
   pub union_falls : (node place child : ℕ) → HasKind checked node told.Union → slice_get (children_at checked.rules node) place ≡ Some child
-      → rank_at checked child < rank_at checked node
-  union_falls node place child h at =
+      → least_at checked child < no_least → rank_at checked child < rank_at checked node
+  union_falls node place child h at low =
       let union : UnionNode node = union_node node h in
       let whole : Expression = expr.Union union.arguments in
       let own : slice_get (children_of node whole) place ≡ Some child = ap (λ ms. slice_get ms place) (sym (children_at_is checked.rules node whole union.at)) ∙ at in
       let within = slice_get_within (children_of node whole) place child own in
       let argument = slice_some (expression_list union.arguments) place (omega (arith, within, length-children_of node whole)) in
       let there : node_at checked.rules child ≡ Some argument.0 = child_node checked.rules node whole place child union.at own ∙ argument.1 in
-      (is_rank node whole union.at).falls place child (rank_at checked child) argument.0 own there (rank_is child argument.0 there)
-      (same_size_is_filled.union g union.arguments place argument.0 ok.passed.spec ok.sequences ok.passed.well_founded (in_nodes checked.rules node whole union.at) argument.1)
-
--- ---- measures
-
--- the way down from a Prod at a size to a component at most at that size
-pub column_below : (total most n rank child : ℕ) → most ≤ n → child < total → (most ≡ n → child < rank) → 4 * (most * total + child) + 4 < 4 * (n * total + rank) + 1
-column_below total most n rank child low within falls = by (cases_lt most n)
-  where
-    by : (most < n) ⊎ (n ≤ most) → 4 * (most * total + child) + 4 < 4 * (n * total + rank) + 1
-    by (inl less) = omega (arith, mul-le (suc most) total n total less (omega arith), one_more most total, within)
-      where
-        one_more : (k total : ℕ) → suc k * total ≡ k * total + total
-        one_more k total = grind arith
-    by (inr more) =
-        let same : most ≡ n = omega (arith, low, more) in
-        omega (arith, falls same, ap (λ (k : ℕ). k * total) same)
+      falls node place child whole argument.0 union.at own there low tt

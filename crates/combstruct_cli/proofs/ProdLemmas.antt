@@ -22,7 +22,6 @@ use Rattle.well_founded.specs.declared.node.NodeKind.TheVariants as told
 use Rattle.spec_syntax.specs.Nodes.{node_at, children_of, children_at, arguments_at, arguments_of}
 use Rattle.spec_syntax.proofs.NodesLemmas.{in_nodes, child_node, length-children_of}
 use Rattle.well_founded.specs.Sizes.{IsLeast, no_least}
-use Rattle.well_founded.specs.Rank.{CanFill}
 use Rattle.well_founded.specs.Checked.{Checked, grammar}
 use Rattle.lists.proofs.Positions.{slice_some}
 use Rattle.splits.specs.Splits.{Split, splits}
@@ -30,9 +29,11 @@ use Rattle.splits.specs.Parts.{has_length, parts}
 use Rattle.listing_laws.specs.Lister.{list_no_components, each_before, by_parts, product}
 use Rattle.listing_laws.specs.Recursion.{components_on, AreLeast}
 use Rattle.listing_laws.specs.Relabelled.{relabelled}
-use Rattle.listing_laws.proofs.Between.{listed_size, sum_more}
-use Rattle.listing_laws.proofs.CallerLemmas.{in_at}
-use Rattle.listing_laws.proofs.Filled.{same_size_is_filled}
+use Rattle.lists.proofs.FlatMaps.{same_made}
+use Rattle.lists.proofs.Places.{drop_at, is_in_get_or}
+use Rattle.lists.proofs.Shares.{others_are_0}
+use Rattle.lists.proofs.Sums.{sum_drop, sum_fewer}
+use Rattle.listing_laws.proofs.Between.{listed_size}
 use Rattle.listing_laws.proofs.ProdLeast.{least_adds}
 use Rattle.listing_laws.proofs.Recursion.{listings_recur, well_founded_is_listed}
 use Rattle.splits.proofs.SplitLaws.{splits_are}
@@ -41,36 +42,10 @@ use Rattle.combstruct_cli.specs.Columns.{of_size, column_to, only_at, HaveFewAto
 use Rattle.combstruct_cli.specs.NodeListing.{IsListable, HasKind, listing_of_node, least_at, rank_at, column_of, least_from, components_from}
 use Rattle.combstruct_cli.proofs.ColumnLemmas.{within_column, column_agree}
 use Rattle.combstruct_cli.proofs.KindLemmas.{prod_is}
-use Rattle.combstruct_cli.proofs.NodeLemmas.{AreNodes, children_are, children_at_is, supplied, kind_at, node_listing, rank_is, is_rank, least_is}
-use Rattle.combstruct_cli.proofs.SplitLemmas.{same_of, between_is, lengths}
+use Rattle.combstruct_cli.proofs.NodeLemmas.{AreNodes, children_are, children_at_is, supplied, kind_at, node_listing, least_entry, least_is, falls}
+use Rattle.combstruct_cli.proofs.SplitLemmas.{between_is, lengths}
 
 -- ---- lists
-
-drop_at : {X : Type 0} (xs : List X) (i : ℕ) (x : X) → slice_get xs i ≡ Some x → drop i xs ≡ x ∷ drop (i + 1) xs
-drop_at [] i x at = absurd (cc)
-drop_at (y ∷ xs) zero x at = let same : y ≡ x = cc in ap (λ z. z ∷ xs) same
-drop_at (y ∷ xs) (suc i) x at = drop_at xs i x at ∙ ap (λ (k : ℕ). x ∷ drop k (y ∷ xs)) (next i)
-  where
-    next : (n : ℕ) → suc (n + 1) ≡ suc n + 1
-    next n = omega arith
-
-sum_at : (f : ℕ → ℕ) (xs : List ℕ) (i x : ℕ) → slice_get xs i ≡ Some x → sum (map f xs) ≡ sum (map f (take i xs)) + f x + sum (map f (drop (i + 1) xs))
-sum_at f [] i x at = absurd (cc)
-sum_at f (y ∷ xs) zero x at = let same : f y ≡ f x = ap f (cc) in omega (arith, sum_more (f y) (map f xs))
-sum_at f (y ∷ xs) (suc i) x at =
-    let rest : sum (map f (drop (suc i + 1) (y ∷ xs))) ≡ sum (map f (drop (i + 1) xs)) = ap (λ (k : ℕ). sum (map f (drop k (y ∷ xs)))) (next i) in
-    omega (arith, sum_at f xs i x at, sum_more (f y) (map f xs), sum_more (f y) (map f (take i xs)), rest)
-  where
-    next : (n : ℕ) → suc n + 1 ≡ suc (n + 1)
-    next n = omega arith
-
-sum_drop : (f : ℕ → ℕ) (xs : List ℕ) (i x : ℕ) → slice_get xs i ≡ Some x → sum (map f (drop i xs)) ≡ f x + sum (map f (drop (i + 1) xs))
-sum_drop f xs i x at = ap (λ ys. sum (map f ys)) (drop_at xs i x at) ∙ sum_more (f x) (map f (drop (i + 1) xs))
-
-sum_fewer : (f : ℕ → ℕ) (xs : List ℕ) (i : ℕ) → sum (map f (drop i xs)) ≤ sum (map f xs)
-sum_fewer f xs zero = omega arith
-sum_fewer f [] (suc i) = omega arith
-sum_fewer f (x ∷ xs) (suc i) = omega (arith, sum_fewer f xs i, sum_more (f x) (map f xs))
 
 nodes_from : (rules : Rules) (ms : List ℕ) (es : List Expression) (i : ℕ) → AreNodes rules ms es → AreNodes rules (drop i ms) (drop i es)
 nodes_from rules ms es zero nodes = nodes
@@ -102,7 +77,7 @@ pub few_atoms : (g : Grammar) (e : Expression) (u : List ℕ) (form : Form5) (li
 few_atoms g e u form lists is small k d within =
     let wrapped : List Structure → Structure = λ components. Tup form (parts_of components) in
     let there : IsIn (wrapped (get_or lists k d)) (listing g e u) =
-    subst (IsIn (wrapped (get_or lists k d))) (sym is) (in_map wrapped (get_or lists k d) lists (in_at lists k d within)) in
+    subst (IsIn (wrapped (get_or lists k d))) (sym is) (in_map wrapped (get_or lists k d) lists (is_in_get_or lists k d within)) in
     omega (arith, listed_size g e u (wrapped (get_or lists k d)) there)
 
 -- ---- splits
@@ -243,31 +218,16 @@ module _ (checked : Checked) (ok : IsListable checked) where
           (subst (λ (es : List Expression). IsIn (expr.Prod (expressions_of (take place all ++ es))) (all_nodes checked.rules)) (drop_at all place c.e c.argument) (there_at place))
           (least_is checked ok child c.e c.at, are_least (drop (place + 1) children) later (nodes_from checked.rules children all (place + 1) are_nodes))
           ∙ ap (λ (size : ℕ). by_parts (least_at checked child) (size - sum others) (listing g c.e) (components_on g (expressions_of later)) (supply checked.universe n)) (supply_size checked.universe n)
-          ∙ same_of with_first (on_split firsts_to others_to) (parts (least_at checked child) (n - sum others) (supply checked.universe n)) (λ split within. on_part n split room within)
+          ∙ same_made with_first (on_split firsts_to others_to) (parts (least_at checked child) (n - sum others) (supply checked.universe n)) (λ split within. on_part n split room within)
 
-    -- a component's least size is at most that of the Prod, and where it is that, all others can be empty and the rank falls
-    around : (place child : ℕ) → slice_get children place ≡ Some child → least_at checked node < no_least
-        → least_at checked node ≡ sum (map (least_at checked) (take place children)) + least_at checked child + sum (map (least_at checked) (drop (place + 1) children))
-    around place child own low = sym (leasts_add low) ∙ sum_at (least_at checked) children place child own
-
-    falls : (place child : ℕ) → slice_get children place ≡ Some child → least_at checked node < no_least → least_at checked child ≡ least_at checked node
+    -- where a component's least size is that of the Prod, all others can be empty and the rank falls
+    rank_falls : (place child : ℕ) → slice_get children place ≡ Some child → least_at checked node < no_least → least_at checked child ≡ least_at checked node
         → rank_at checked child < rank_at checked node
-    falls place child own low same =
+    rank_falls place child own low same =
         let c : Component place child = component place child own in
-        let earlier : List Expression = take place all in
-        let later : List Expression = drop (place + 1) all in
-        let before : List ℕ = map (least_at checked) (take place children) in
-        let after : List ℕ = map (least_at checked) (drop (place + 1) children) in
-        let cut : earlier ++ c.e ∷ later ≡ all = ap (λ es. earlier ++ es) (sym (drop_at all place c.e c.argument)) ∙ take-append-drop place all in
-        let is : expr.Prod (expressions_of (earlier ++ c.e ∷ later)) ≡ whole = ap (λ es. expr.Prod (expressions_of es)) cut ∙ ap expr.Prod (back_again prod.components) in
-        let filled = same_size_is_filled.prod g earlier c.e later before after ok.passed.spec ok.sequences ok.passed.well_founded (there earlier (c.e ∷ later) cut)
-        (are_least (take place children) earlier (nodes_before checked.rules children all place are_nodes))
-        (are_least (drop (place + 1) children) later (nodes_from checked.rules children all (place + 1) are_nodes))
-        (omega (arith, around place child own low, same)) (omega (arith, around place child own low, same)) in
-        let filled_here : CanFill g whole place c.e =
-        subst (λ (p : ℕ). CanFill g whole p c.e) (length-take-le place all (omega (arith, slice_get_within all place c.e c.argument)))
-        (subst (λ (e : Expression). CanFill g e (length earlier) c.e) is filled) in
-        (is_rank checked ok node whole prod.at).falls place child (rank_at checked child) c.e own c.at (rank_is checked ok child c.e c.at) filled_here
+        falls checked ok node place child whole c.e prod.at own c.at (omega (arith, low, same)) (λ other k there differ.
+        let also : Component other k = component other k there in
+        least_entry checked ok k also.e also.at ∙ ap (λ (n : ℕ). Some n) (others_are_0 (least_at checked) children place child other k own there differ (leasts_add low ∙ sym same)))
 
   -- ---- in terms of the code's tables
 
@@ -342,4 +302,4 @@ module _ (checked : Checked) (ok : IsListable checked) where
       → least_at checked child ≡ least_at checked node → rank_at checked child < rank_at checked node
   prod_falls node place child h low at same =
       let prod : ProdNode node = prod_node node h in
-      falls node prod place child (ap (λ ms. slice_get ms place) (sym (children_is node prod)) ∙ at) low same
+      rank_falls node prod place child (ap (λ ms. slice_get ms place) (sym (children_is node prod)) ∙ at) low same

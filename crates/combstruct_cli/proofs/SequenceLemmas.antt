@@ -31,16 +31,16 @@ use Rattle.splits.specs.Parts.{has_length, parts}
 use Rattle.listing_laws.specs.Lister.{each_before, sequence, after_one, admits_some, list_empty}
 use Rattle.listing_laws.specs.Recursion.{repeated_on}
 use Rattle.listing_laws.specs.Relabelled.{relabelled}
-use Rattle.listing_laws.proofs.Between.{none_below, nothing_of}
-use Rattle.listing_laws.proofs.Filled.{same_size_is_filled}
+use Rattle.lists.proofs.FlatMaps.{nothing_of, same_made}
+use Rattle.listing_laws.proofs.Between.{none_below}
 use Rattle.listing_laws.proofs.Recursion.{listings_recur}
 use Rattle.combstruct_cli.specs.Columns.{of_size, column_to, HaveFewAtoms, on_split, by_columns, only_empty, repeated_by}
 use Rattle.combstruct_cli.specs.NodeListing.{IsListable, HasKind, listing_of_node, least_at, rank_at, IsElement, repeated_of, Reaches}
 use Rattle.combstruct_cli.proofs.ColumnLemmas.{within_column, over_column, within_range}
 use Rattle.combstruct_cli.proofs.KindLemmas.{sequence_is}
-use Rattle.combstruct_cli.proofs.NodeLemmas.{children_at_is, supplied, kind_at, node_listing, rank_is, is_rank, least_is}
+use Rattle.combstruct_cli.proofs.NodeLemmas.{children_at_is, supplied, kind_at, node_listing, least_is, falls}
 use Rattle.combstruct_cli.proofs.ProdLemmas.{few_atoms, supplied_split, on_supply}
-use Rattle.combstruct_cli.proofs.SplitLemmas.{same_of, between_is, lengths, no_others, before_nothing}
+use Rattle.combstruct_cli.proofs.SplitLemmas.{between_is, lengths, no_others, before_nothing}
 
 -- ---- bounds
 
@@ -165,13 +165,13 @@ module _ (checked : Checked) (ok : IsListable checked) where
 
   -- where the bound admits one component, the rank falls
   pub sequence_falls : (node element : ℕ) (card : Card) → HasKind checked node told.Sequence → slice_get (children_at checked.rules node) 0 ≡ Some element
-      → card_at checked.rules node ≡ Some card → card.low ≤ 1 → (card.high ≡ Some 0 → ⊥) → rank_at checked element < rank_at checked node
-  sequence_falls node element card h child is low some =
+      → card_at checked.rules node ≡ Some card → card.low ≤ 1 → (card.high ≡ Some 0 → ⊥) → least_at checked element < no_least
+      → rank_at checked element < rank_at checked node
+  sequence_falls node element card h child is low some few =
       let s : SequenceNode node element = sequence_node node element h child in
       let whole : Expression = expr.Many kind.Sequence s.e s.card in
       let admitted : admits s.card 1 ≡ true = ap (λ own. admits own 1) (own_card node element card s is) ∙ one_admitted card low some in
-      (is_rank checked ok node whole s.at).falls 0 element (rank_at checked element) s.e s.below s.inside (rank_is checked ok element s.e s.inside)
-      (same_size_is_filled.sequence g s.e s.card ok.passed.spec ok.sequences ok.passed.well_founded (in_nodes checked.rules node whole s.at) admitted)
+      falls checked ok node 0 element whole s.e s.at s.below s.inside few admitted
 
   -- no structure of an element has size 0
   pub element_least : (element : ℕ) → IsElement checked element → 1 ≤ least_at checked element
@@ -309,7 +309,7 @@ module _ (checked : Checked) (ok : IsListable checked) where
       longer : 0 < n → admits_some card ≡ true → repeated_of checked element card n ≡ by_columns checked.universe structs others 1 n n
       longer some admitted =
           at_some card n some ∙ ap (λ (b : Bool). if b then flat_map (with_first card) (parts 1 n (supply checked.universe n)) else []) admitted
-          ∙ same_of (with_first card) (on_split structs others) (parts 1 n (supply checked.universe n)) on_part
+          ∙ same_made (with_first card) (on_split structs others) (parts 1 n (supply checked.universe n)) on_part
 
     -- by the structures of the element, and the lists with one component less
     pub repeated_next : (structs : List (List Structure)) (others : List (List (List Structure))) (card : Card) (most n : ℕ) → n ≤ most → (card.high ≡ Some 0 → ⊥)

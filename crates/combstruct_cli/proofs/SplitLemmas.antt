@@ -13,26 +13,10 @@ use Rattle.splits.specs.Splits.{Split, splits}
 use Rattle.splits.specs.Parts.{has_length, parts}
 use Rattle.listing_laws.specs.Lister.{each_before}
 use Rattle.listing_laws.specs.Relabelled.{relabelled}
-use Rattle.listing_laws.proofs.Between.{left_out}
+use Rattle.lists.proofs.Filters.{filter_twice}
+use Rattle.lists.proofs.FlatMaps.{left_out}
 use Rattle.splits.proofs.SplitSupplies.{split_length}
 use Rattle.combstruct_cli.specs.Columns.{of_size, on_split, by_columns}
-
--- what agrees on each element makes the same of it
-pub same_of : {X A : Type 0} (f h : X → List A) (xs : List X) → ((x : X) → IsIn x xs → f x ≡ h x) → flat_map f xs ≡ flat_map h xs
-same_of f h [] same = refl
-same_of f h (x ∷ xs) same = λ i. same x (inl refl) i ++ same_of f h xs (λ y there. same y (inr there)) i
-
--- a narrower test alone decides
-filter_twice : {X : Type 0} (wide narrow : X → Bool) (xs : List X) → ((x : X) → narrow x ≡ true → wide x ≡ true) → filter narrow (filter wide xs) ≡ filter narrow xs
-filter_twice wide narrow [] within = refl
-filter_twice wide narrow (x ∷ xs) within = by (wide x) (narrow x) refl refl (filter_twice wide narrow xs within)
-  where
-    by : (w n : Bool) → wide x ≡ w → narrow x ≡ n → filter narrow (filter wide xs) ≡ filter narrow xs
-        → filter narrow (cond w (x ∷ filter wide xs) (filter wide xs)) ≡ cond n (x ∷ filter narrow xs) (filter narrow xs)
-    by true true is_wide is_narrow others = ap (λ b. cond b (x ∷ filter narrow (filter wide xs)) (filter narrow (filter wide xs))) is_narrow ∙ ap (λ ys. x ∷ ys) others
-    by true false is_wide is_narrow others = ap (λ b. cond b (x ∷ filter narrow (filter wide xs)) (filter narrow (filter wide xs))) is_narrow ∙ others
-    by false true is_wide is_narrow others = absurd (true≢false (sym (within x is_narrow) ∙ is_wide))
-    by false false is_wide is_narrow others = others
 
 pub between_is : (low high n : ℕ) → (nat_le low n && nat_le n high) ≡ true → (low ≤ n) × (n ≤ high)
 between_is low high n h = (grind (arith, nat_tests), grind (arith, nat_tests))

@@ -49,6 +49,10 @@ fn list_rule_column(
     ensures { IfOk result (λ column. column ≡ column_to (listing_of_rule grammar.now sym) most) }
 {
     let right = grammar.rule_node(sym);
+    let smallest = grammar.least(right);
+    if most < smallest {
+        return list_nothing(alloc, most);
+    }
     match grammar.kind(right) {
         NodeKind::Epsilon => {
             let word = Struct {
@@ -62,7 +66,13 @@ fn list_rule_column(
             };
             list_word(alloc, 1, &word, most)
         }
-        _ => {
+        NodeKind::Rule
+        | NodeKind::Union
+        | NodeKind::Prod
+        | NodeKind::Sequence
+        | NodeKind::Set
+        | NodeKind::PowerSet
+        | NodeKind::Cycle => {
             let inside = list_node(alloc, grammar, right, most)?;
             name_column(alloc, sym, inside)
         }
@@ -92,6 +102,10 @@ fn list_node(
     requires size { most ≤ 1000 }
     ensures { IfOk result (λ column. column ≡ column_to (listing_of_node grammar.now node) most) }
 {
+    let least = grammar.least(node);
+    if most < least {
+        return list_nothing(alloc, most);
+    }
     match grammar.kind(node) {
         NodeKind::Epsilon => {
             let word = Struct {
@@ -109,8 +123,7 @@ fn list_node(
         NodeKind::Union => list_union(alloc, grammar, node, most),
         NodeKind::Prod => list_prod(alloc, grammar, node, most),
         NodeKind::Sequence => list_sequence(alloc, grammar, node, most),
-        // No statement has another container yet.
-        _ => list_nothing(alloc, most),
+        NodeKind::Set | NodeKind::PowerSet | NodeKind::Cycle => unreachable!(),
     }
 }
 
@@ -205,12 +218,10 @@ fn list_prod(
     requires grammar { IsListable grammar.now }
     requires node { HasKind grammar.now node NodeKind.Prod }
     requires size { most ≤ 1000 }
+    requires least { least_at grammar.now node ≤ most }
     ensures { IfOk result (λ column. column ≡ column_to (listing_of_node grammar.now node) most) }
 {
     let least = grammar.least(node);
-    if most < least {
-        return list_nothing(alloc, most);
-    }
     let columns = list_columns(alloc, grammar, node, most - least)?;
     let lists = list_components(alloc, grammar, node, &columns, most - least)?;
     wrap_column(alloc, Form5::Prod, lists)

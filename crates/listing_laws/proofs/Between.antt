@@ -14,33 +14,15 @@ use Rattle.struct_model.specs.Bounded.{bounds, listing}
 use Rattle.well_founded.specs.Sizes.{IsOf, IsLeast}
 use Rattle.splits.specs.Splits.{Split, splits}
 use Rattle.splits.specs.Parts.{has_length}
+use Rattle.lists.proofs.FlatMaps.{nothing_of, left_out}
+use Rattle.lists.proofs.Places.{is_empty}
+use Rattle.lists.proofs.Sums.{sum_more}
 use Rattle.listing_laws.specs.Lister.{each_before, by_parts}
 use Rattle.listing_laws.specs.Recursion.{components_on, AreLeast}
 use Rattle.listing_laws.proofs.FilterLaws.{listing_within_sound}
 use Rattle.listing_laws.proofs.SetsRead.{in_sets, size-in_sets, read_of}
 use Rattle.listing_laws.proofs.Sizes.{size_is}
 use Rattle.splits.proofs.SplitSupplies.{split_length}
-
--- ---- what gives nothing
-
-module _ {X A : Type 0} (f : X → List A) where
-  -- where each element gives nothing, all of them do
-  pub nothing_of : (xs : List X) → ((x : X) → IsIn x xs → f x ≡ []) → flat_map f xs ≡ []
-  nothing_of [] none = refl
-  nothing_of (x ∷ xs) none = ap (λ (first : List A). first ++ flat_map f xs) (none x (inl refl)) ∙ nothing_of xs (λ y there. none y (inr there))
-
-  -- elements that give nothing may be left out
-  pub left_out : (keep : X → Bool) (xs : List X) → ((x : X) → IsIn x xs → keep x ≡ false → f x ≡ []) → flat_map f xs ≡ flat_map f (filter keep xs)
-  left_out keep [] none = refl
-  left_out keep (x ∷ xs) none = by (keep x) refl (left_out keep xs (λ y there. none y (inr there)))
-    where
-      by : (b : Bool) → keep x ≡ b → flat_map f xs ≡ flat_map f (filter keep xs) → f x ++ flat_map f xs ≡ flat_map f (cond b (x ∷ filter keep xs) (filter keep xs))
-      by true kept others = ap (λ rest. f x ++ rest) others
-      by false left others = ap (λ first. first ++ flat_map f xs) (none x (inl refl) left) ∙ others
-
-pub is_empty : {A : Type 0} (xs : List A) → ((x : A) → IsIn x xs → ⊥) → xs ≡ []
-is_empty [] none = refl
-is_empty (x ∷ xs) none = absurd (none x (inl refl))
 
 nothing_before : (firsts : List Structure) → flat_map (λ (first : Structure). map (λ (rest : List Structure). first ∷ rest) []) firsts ≡ []
 nothing_before [] = refl
@@ -68,12 +50,6 @@ listed_size g e u s within = size_is u s (listing_sound g e u s within).1
 pub none_below : (g : Grammar) (e : Expression) (least : ℕ) (u : List ℕ) → IsLeast g e least → length u < least → listing g e u ≡ []
 none_below g e least u is_least below = is_empty (listing g e u) (λ s within.
     omega (arith, below, not_smaller g e least s is_least (listing_sound g e u s within).0, listed_size g e u s within))
-
-pub sum_more : (m : ℕ) (ms : List ℕ) → sum (m ∷ ms) ≡ m + sum ms
-sum_more m ms =
-    let whole : sum (m ∷ ms) ≡ 0 + m + sum_by (λ (x : ℕ). x) ms = sum_by_from (λ (x : ℕ). x) (0 + m) ms in
-    let rest : sum ms ≡ 0 + sum_by (λ (x : ℕ). x) ms = sum_by_from (λ (x : ℕ). x) 0 ms in
-    omega (arith, whole, rest)
 
 module _ (g : Grammar) where
   -- what is listed with the first component on the part

@@ -15,6 +15,7 @@ use Rattle.spec_syntax.specs.Expression as expr
 use Rattle.spec_syntax.specs.Expression.{Expression, Expressions, no_expressions, more_expressions}
 use Rattle.spec_syntax.specs.Grammar.{Grammar}
 use Rattle.struct_model.specs.declared.tree.Form5.TheVariants as form
+use Rattle.lists.proofs.Mapped.{same_mapped}
 use Rattle.lists.specs.Ascending.{inserted, ascending}
 use Rattle.struct_model.specs.Structure.{Structure, Eps, Atom, Named, Alt, Tup, Structures, no_parts, more_parts, part_list, labels, labels_of_parts, key}
 use Rattle.struct_model.specs.Order.{form_rank, key_order, order_within, order_of_parts, order, is_sorted, is_strictly_sorted, is_least_rotation}
@@ -67,13 +68,7 @@ module _ (at : ℕ → ℕ) (rising : IsRising at) where
   ]
 
   pub same_numbers : (ls ms : List ℕ) → map at ls ≡ map at ms → ls ≡ ms
-  same_numbers [] [] same = refl
-  same_numbers [] (m ∷ ms) same = cc
-  same_numbers (l ∷ ls) [] same = cc
-  same_numbers (l ∷ ls) (m ∷ ms) same =
-      let heads : at l ≡ at m = cc in
-      let tails : map at ls ≡ map at ms = cc in
-      λ i. one l m heads i ∷ same_numbers ls ms tails i
+  same_numbers ls ms same = same_mapped at one ls ms same
     where
       one : (l m : ℕ) → at l ≡ at m → l ≡ m
       one l m same = elim (cases_order l m) [

@@ -24,7 +24,7 @@ use Rattle.well_founded.proofs.CheckExists.{some_check}
 use Rattle.well_founded.proofs.RankLaws.{ranks_exist}
 use Rattle.listing_laws.specs.Endless.{Differ, HasEndlesslyMany}
 use Rattle.listing_laws.specs.Laws.{IsListing, EndlessByMembers}
-use Rattle.listing_laws.proofs.Distinct.{no_longer}
+use Rattle.lists.proofs.Distinct.{no_longer}
 use Rattle.lists.proofs.Ascending.{ascending_same}
 use Rattle.listing_laws.proofs.Relabel.{relabel}
 use Rattle.listing_laws.proofs.Sequences.{name_unread}

@@ -21,9 +21,6 @@ pub mod Ranked
 pub mod WellFoundedListed
 pub mod Between
 pub mod Recursion
-pub mod Distinct
 pub mod Relabel
 pub mod EndlessMembers
-pub mod Filled
-pub mod RecursionLemmas
 pub mod ProdLeast

@@ -11,7 +11,8 @@ use Rattle.struct_model.specs.Membership.{are_of_each}
 use Rattle.well_founded.specs.Sets.{all_with_sets, reading_sets}
 use Rattle.well_founded.specs.Sizes.{IsOf, IsLeast, IsLeastSize, no_least}
 use Rattle.listing_laws.specs.Recursion.{AreLeast}
-use Rattle.listing_laws.proofs.Between.{sum_more, at_least}
+use Rattle.lists.proofs.Sums.{sum_more}
+use Rattle.listing_laws.proofs.Between.{at_least}
 
 module _ (g : Grammar) where
   -- components of these expressions, where each PowerSet is read as Set

@@ -35,7 +35,9 @@ use Rattle.listing_laws.specs.Relabelled.{relabelled, relabelled_parts}
 use Rattle.listing_laws.specs.Laws.{IsListing, ListsEach, WellFoundedIsListed, ListingsRecur}
 use Rattle.listing_laws.proofs.Alike.{supplies_are_alike}
 use Rattle.listing_laws.proofs.Arguments.{union_is}
-use Rattle.listing_laws.proofs.Between.{is_empty, not_smaller, between}
+use Rattle.lists.proofs.Mapped.{same_mapped}
+use Rattle.lists.proofs.Places.{is_empty}
+use Rattle.listing_laws.proofs.Between.{not_smaller, between}
 use Rattle.listing_laws.proofs.BySize.{by_splits-by_sizes}
 use Rattle.listing_laws.proofs.BuildingUp.{eps_within, atom_within}
 use Rattle.listing_laws.proofs.Components.{same_components, ListsComponents, no_components_are, by_splits_are, products_are}
@@ -44,7 +46,7 @@ use Rattle.listing_laws.proofs.Hub.{epsilon_lists, atom_lists}
 use Rattle.listing_laws.proofs.Ranked.{child_at, element_full}
 use Rattle.listing_laws.proofs.Repeated.{some_in, ListsRepeated, sequences_are, repeated_are}
 use Rattle.listing_laws.proofs.RuleLaws.{rule_lists, no_rule_lists}
-use Rattle.listing_laws.proofs.Sizes.{length-ascending}
+use Rattle.lists.proofs.Ascending.{length-ascending}
 use Rattle.struct_model.proofs.SupplyLaws.{supply_is, supply_rises}
 use Rattle.splits.proofs.SplitSupplies.{split_length, split_supplies}
 use Rattle.listing_laws.proofs.WellFoundedListed.{listing_from, label_bound, node_lists, name_lists, suffix_lists, bound_lists}
@@ -170,13 +172,7 @@ module _ (form : Form5) where
   relabelled_together u (ss ∷ sss) = λ i. Tup form (relabelled_list u ss i) ∷ relabelled_together u sss i
 
   same_lists : (sss others : List (List Structure)) → map together sss ≡ map together others → sss ≡ others
-  same_lists [] [] same = refl
-  same_lists [] (ts ∷ others) same = cc
-  same_lists (ss ∷ sss) [] same = cc
-  same_lists (ss ∷ sss) (ts ∷ others) same =
-      let heads : together ss ≡ together ts = cc in
-      let tails : map together sss ≡ map together others = cc in
-      λ i. same_components form ss ts heads i ∷ same_lists sss others tails i
+  same_lists sss others same = same_mapped together (same_components form) sss others same
 
   -- lists of components are alike where they are when put together
   alike_together : (u : List ℕ) (whole first : List Structure) (sss others : List (List Structure)) → whole ≡ map (relabelled u) first

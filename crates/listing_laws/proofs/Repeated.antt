@@ -24,7 +24,8 @@ use Rattle.splits.specs.Laws.{PartBefore}
 use Rattle.listing_laws.specs.Laws.{IsNeverEmpty, ListsParts, SequenceIsListed}
 use Rattle.lists.proofs.Enumerated as enumerated
 use Rattle.lists.proofs.Ascending.{Rises}
-use Rattle.listing_laws.proofs.Sizes.{length-ascending, size_is}
+use Rattle.lists.proofs.Ascending.{length-ascending}
+use Rattle.listing_laws.proofs.Sizes.{size_is}
 use Rattle.splits.proofs.SplitLaws.{MakesUp, splits_are}
 use Rattle.struct_model.proofs.SupplyLaws.{supply_rises}
 use Rattle.splits.proofs.SplitSupplies.{split_supplies}

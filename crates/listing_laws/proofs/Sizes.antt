@@ -3,24 +3,11 @@ use Rattle.std.proofs.Common.{◌≡◌, ℕ, suc, List, [], ◌∷◌, length, 
 use Rattle.std.proofs.lemmas.Bool.{cases_lt}
 use Rattle.lists.specs.Ascending.{inserted, ascending}
 use Rattle.struct_model.specs.Structure.{Structure, labels, labels_of_parts, parts_of, size, key}
-use Rattle.lists.proofs.Ascending.{inserted_first, inserted_later}
+use Rattle.lists.proofs.Ascending.{length-ascending}
 
 -- the number of atoms of all the components
 abbrev pub size_of_all : List Structure → ℕ
 size_of_all ss = length (labels_of_parts (parts_of ss))
-
--- ---- in ascending order
-
-length-inserted : (x : ℕ) (ms : List ℕ) → length (inserted x ms) ≡ suc (length ms)
-length-inserted x [] = refl
-length-inserted x (m ∷ ms) = elim (cases_lt m x) [
-  | inl above ↦ ap length (inserted_later x m ms above) ∙ ap suc (length-inserted x ms)
-  | inr below ↦ ap length (inserted_first x m ms below)
-]
-
-pub length-ascending : (xs : List ℕ) → length (ascending xs) ≡ length xs
-length-ascending [] = refl
-length-ascending (x ∷ xs) = length-inserted x (ascending xs) ∙ ap suc (length-ascending xs)
 
 -- a structure has as many atoms as its key has labels
 pub size_is : (u : List ℕ) (s : Structure) → key s ≡ u → size s ≡ length u

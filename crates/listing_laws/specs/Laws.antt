@@ -17,8 +17,6 @@ use Rattle.well_founded.specs.declared.refused.Refused.TheVariants.{Endless}
 use Rattle.well_founded.specs.Sizes.{no_least, IsLeast}
 use Rattle.well_founded.specs.Names.{used_names, undefined_name}
 use Rattle.well_founded.specs.WellFounded.{HasNullElement, HoldsCycle, HoldsNull, OfNone, IsEachProductive, IsWellFounded, IsCulprit}
-use Rattle.well_founded.specs.Rank.{CanFill}
-use Rattle.well_founded.specs.SameSize.{is_told_inside}
 use Rattle.splits.specs.Splits.{Split, splits}
 use Rattle.splits.specs.Parts.{parts}
 use Rattle.listing_laws.specs.Lister.{Names, list_with, alternatives, by_splits, by_parts, product, sequence, after_one, admits_some, list_empty, list_no_components, list_epsilon, list_atom, named}
@@ -175,18 +173,3 @@ pub record EndlessByMembers : Type 0 where
   pub endless : (g : Grammar) (start : Option (List ℕ)) (x : List ℕ) (m : ℕ) → IsTrue (is_spec g.rules) → IsTrue (are_sequences g.rules)
       → undefined_name g.rules start ≡ None → OfNone (HoldsCycle g) g.rules → IsEachProductive g → OfNone (HoldsNull g) g.rules
       → HasEndlesslyMany g x m → (name : List ℕ) × (n : ℕ) × IsCulprit g start (Endless name n)
-
--- In a well founded grammar without containers but Sequences these can stand inside at the same size, so their ranks are lower: the
--- right side of a name unless it is one of the two words, each argument of a Union, a component of a Prod where the least sizes of
--- all others are 0, and the element of a Sequence that may have one component.
-pub record SameSizeIsFilled : Type 0 where
-  pub name : (g : Grammar) (name : List ℕ) (n : ℕ) (right : Expression) → IsTrue (is_spec g.rules) → IsTrue (are_sequences g.rules) → IsWellFounded g
-      → symbol g.rules name ≡ Some n → right_side g.rules n ≡ Some right → IsTrue (is_told_inside right) → CanFill g (Name name) 0 right
-  pub union : (g : Grammar) (es : Expressions) (place : ℕ) (e : Expression) → IsTrue (is_spec g.rules) → IsTrue (are_sequences g.rules) → IsWellFounded g
-      → IsIn (Union es) (all_nodes g.rules) → slice_get (expression_list es) place ≡ Some e → CanFill g (Union es) place e
-  pub prod : (g : Grammar) (earlier : List Expression) (e : Expression) (later : List Expression) (before after : List ℕ)
-      → IsTrue (is_spec g.rules) → IsTrue (are_sequences g.rules) → IsWellFounded g → IsIn (Prod (expressions_of (earlier ++ e ∷ later))) (all_nodes g.rules)
-      → AreLeast g earlier before → AreLeast g later after → sum before ≡ 0 → sum after ≡ 0
-      → CanFill g (Prod (expressions_of (earlier ++ e ∷ later))) (length earlier) e
-  pub sequence : (g : Grammar) (e : Expression) (card : Card) → IsTrue (is_spec g.rules) → IsTrue (are_sequences g.rules) → IsWellFounded g
-      → IsIn (Many kind.Sequence e card) (all_nodes g.rules) → IsTrue (admits card 1) → CanFill g (Many kind.Sequence e card) 0 e

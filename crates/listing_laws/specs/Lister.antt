@@ -86,7 +86,9 @@ abbrev mutual
   list_with names (expr.Union arguments) u = alternatives 1 (list_each names arguments u)
   list_with names (expr.Prod components) u = map product (list_components names components u)
   list_with names (expr.Many kind.Sequence element card) u = map sequence (list_repeated (list_with names element) (length u) card u)
-  list_with names (expr.Many other element card) u = []
+  list_with names (expr.Many kind.Set element card) u = []
+  list_with names (expr.Many kind.PowerSet element card) u = []
+  list_with names (expr.Many kind.Cycle element card) u = []
 
   -- what each of the expressions lists on the supply
   pub list_each : Names → Expressions → List ℕ → List (List Structure)
@@ -101,5 +103,9 @@ abbrev mutual
 -- what the rule of this number makes of a structure of its right side: a word takes the number, and all else is put inside
 abbrev pub named : ℕ → Structure → Structure
 named number (Eps zero) = Eps number
+named number (Eps (suc rule)) = Named number (Eps (suc rule))
 named number (Atom zero label) = Atom number label
-named number s = Named number s
+named number (Atom (suc rule) label) = Named number (Atom (suc rule) label)
+named number (Named rule inside) = Named number (Named rule inside)
+named number (Alt argument inside) = Named number (Alt argument inside)
+named number (Tup form parts) = Named number (Tup form parts)

@@ -3,7 +3,7 @@
 //! This crate has no code of the program. Each law is what a function with an empty body ensures.
 #![tactic(auto)]
 
-ghost use Rattle.listing_laws.specs.Laws.{WordsAreListed, UnionIsListed, ProdIsListed, SequenceIsListed, SuppliesAreAlike, ExpressionIsListed, WellFoundedIsListed, ListingsRecur, SameSizeIsFilled, EndlessByMembers};
+ghost use Rattle.listing_laws.specs.Laws.{WordsAreListed, UnionIsListed, ProdIsListed, SequenceIsListed, SuppliesAreAlike, ExpressionIsListed, WellFoundedIsListed, ListingsRecur, EndlessByMembers};
 
 /// The listing of Epsilon and of Atom is the word alone, on a supply of no label and of one, and the listing of a rule's
 /// name is that of its right side, told by the rule's number.
@@ -55,12 +55,6 @@ pub fn listings_recur()
     ensures { ListingsRecur }
 {}
 
-/// What the listing of a node of a well-founded grammar without containers but Sequences needs at the same size can stand
-/// inside at that size, and so has a lower rank.
-pub fn same_size_is_filled()
-    ensures { SameSizeIsFilled }
-{}
-
 /// Where a grammar has none of the other faults and no container but Sequences, its check refuses a rule as endless exactly
 /// where for some class and size there are, for each number, so many different members.
 pub fn endless_by_members()
@@ -82,7 +76,6 @@ mod tests {
         expression_is_listed();
         well_founded_is_listed();
         listings_recur();
-        same_size_is_filled();
         endless_by_members();
         Ok(())
     }

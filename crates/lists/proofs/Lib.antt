@@ -12,3 +12,5 @@ pub mod NumberOrder
 pub mod Orders
 pub mod Indexed
 pub mod Positions
+pub mod Mapped
+pub mod Shares

@@ -1,7 +1,7 @@
 use Rattle.std.proofs.Common.{◌++◌, ◌∷◌, List, map, take, ap, sym, ◌∙◌, append_assoc}
 use Rattle.std.specs.List.{flat_map}
 use Rattle.struct_model.specs.Structure.{Structure}
-use Rattle.listing_laws.proofs.CallerLemmas.{flat_map-take}
+use Rattle.lists.proofs.FlatMaps.{flat_map-take}
 use Rattle.combstruct_cli.proofs.components.push_lists.Goals as goal
 
 pub loop-first-preserved : goal.loop-first-preserved
