@@ -5,13 +5,15 @@ use Rattle.std.proofs.lemmas.Bool.Decides.{nat_tests}
 use Rattle.std.proofs.lemmas.Nat.{mul-le}
 
 -- n where the size is at least the least one, and 0 below that
-abbrev pub from_least : ℕ → ℕ → ℕ → ℕ
+unfoldable pub from_least : ℕ → ℕ → ℕ → ℕ
 from_least most least n = if nat_lt most least then 0 else n
 
 pub from_least_is : (most least n : ℕ) → least ≤ most → from_least most least n ≡ n
+unfolding from_least
 from_least_is most least n h = grind (arith, nat_tests)
 
 pub from_least_below : (most least n t : ℕ) → 0 < t → (least ≤ most → n < t) → from_least most least n < t
+unfolding from_least
 from_least_below most least n t some below = by (cases_lt most least)
   where
     none : most < least → from_least most least n ≡ 0

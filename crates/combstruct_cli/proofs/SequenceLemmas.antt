@@ -24,7 +24,7 @@ use Rattle.struct_model.proofs.SupplyLaws.{supply_size}
 use Rattle.well_founded.specs.declared.node.NodeKind.TheVariants as told
 use Rattle.spec_syntax.specs.Nodes.{node_at, children_of, children_at, card_of, card_at}
 use Rattle.spec_syntax.proofs.NodesLemmas.{in_nodes, child_node}
-use Rattle.well_founded.specs.Sizes.{IsLeast}
+use Rattle.well_founded.specs.Sizes.{IsLeast, no_least}
 use Rattle.well_founded.specs.Checked.{Checked, grammar}
 use Rattle.splits.specs.Splits.{Split, splits}
 use Rattle.splits.specs.Parts.{has_length, parts}

@@ -142,7 +142,11 @@ fn named(alloc: Global, sym: u32, s: Struct) -> Result<Struct, AllocError>
         Shape::Atom(0, label) => Ok(Struct {
             shape: Shape::Atom(sym, *label),
         }),
-        _ => {
+        Shape::Eps(_)
+        | Shape::Atom(_, _)
+        | Shape::Named(_, _)
+        | Shape::Alt(_, _)
+        | Shape::Tup(_, _) => {
             let inside = Box::new(alloc, s)?;
             Ok(Struct {
                 shape: Shape::Named(sym, inside),

@@ -1,21 +1,45 @@
-use Rattle.std.proofs.Common.{ℕ, ◌≡◌, ◌≤◌, ◌<◌, ◌+◌, ◌-◌, ◌*◌, Some, [], All, length, take, map, sym, ap, subst, ◌∙◌, arith}
+use Rattle.std.proofs.Common.{ℕ, slice_get, ◌⊎◌, inl, inr, ◌≡◌, ◌≤◌, ◌<◌, ◌+◌, ◌-◌, ◌*◌, Some, [], All, length, take, map, sym, ap, subst, ◌∙◌, arith}
 use Rattle.std.proofs.lemmas.Result.{IfOk-weaker}
 use Rattle.spec_syntax.specs.Rules.{all_nodes}
 use Rattle.struct_model.specs.Structure.{Eps, Atom}
+use Rattle.well_founded.specs.Checked.{Checked}
+use Rattle.well_founded.specs.declared.node.NodeKind.{NodeKind}
 use Rattle.well_founded.specs.declared.node.NodeKind.TheVariants as told
 use Rattle.spec_syntax.specs.Nodes.{right_node, children_at}
 use Rattle.listing_laws.specs.Lister.{product, sequence, named}
 use Rattle.combstruct_cli.specs.Columns.{of_size, column_to, only_at, only_label, HaveFewAtoms, alternatives_at}
-use Rattle.combstruct_cli.specs.NodeListing.{HasKind, IsElement, listing_of_node, listing_of_rule, least_at, rank_at, rule_rank, column_of, components_from, repeated_of}
+use Rattle.combstruct_cli.specs.NodeListing.{IsListable, HasKind, IsElement, listing_of_node, listing_of_rule, least_at, rank_at, rule_rank, column_of, components_from, repeated_of}
 use Rattle.combstruct_cli.proofs.ColumnLemmas.{column_step, column_last, column_same, column_agree, column_all, mapped_column, within_column}
 use Rattle.combstruct_cli.proofs.ListerSteps.{columns_step, same_count, child_at, entry_is, take_whole}
-use Rattle.combstruct_cli.proofs.NodeLemmas.{none_is_other, epsilon_listed, atom_listed, rule_listed, right_listed, right_epsilon, right_atom, rank_within, below_least, rule_falls, told_rank, union_at, union_falls, column_below}
+use Rattle.combstruct_cli.proofs.NodeLemmas.{none_is_other, epsilon_listed, atom_listed, rule_listed, right_listed, right_epsilon, right_atom, rank_within, below_least, rule_falls, told_rank, union_at, union_falls}
+use Rattle.combstruct_cli.proofs.Measures.{from_least, from_least_is, from_least_below, column_below}
 use Rattle.combstruct_cli.proofs.ProdLemmas.{prod_listed, prod_atoms, component_least, prod_falls}
 use Rattle.combstruct_cli.proofs.SequenceLemmas.{is_some, none_other, sequence_listed, sequence_atoms, sequence_falls, element_least, within_nodes}
 use Rattle.combstruct_cli.proofs.list.+listing.Goals as goal
 use Rattle.combstruct_cli.proofs.list.+listing.Goals.{list_union-else-loop-size-test, list_union-then-loop-size-test+in_ok-list_alternatives+in_ok-push+else-size-most}
 
 -- ---- list_rule_column
+
+no_word : (k : NodeKind)
+    → (k ≡ told.Rule) ⊎ ((k ≡ told.Union) ⊎ ((k ≡ told.Prod) ⊎ ((k ≡ told.Sequence) ⊎ ((k ≡ told.Set) ⊎ ((k ≡ told.PowerSet) ⊎ (k ≡ told.Cycle))))))
+    → (k ≡ told.Epsilon → ⊥) × (k ≡ told.Atom → ⊥)
+no_word k (inl is) = ((λ e. cc), (λ e. cc))
+no_word k (inr (inl is)) = ((λ e. cc), (λ e. cc))
+no_word k (inr (inr (inl is))) = ((λ e. cc), (λ e. cc))
+no_word k (inr (inr (inr (inl is)))) = ((λ e. cc), (λ e. cc))
+no_word k (inr (inr (inr (inr (inl is))))) = ((λ e. cc), (λ e. cc))
+no_word k (inr (inr (inr (inr (inr (inl is)))))) = ((λ e. cc), (λ e. cc))
+no_word k (inr (inr (inr (inr (inr (inr is)))))) = ((λ e. cc), (λ e. cc))
+
+pub list_rule_column-returns-then-most-smallest : goal.list_rule_column-returns-then-most-smallest
+list_rule_column-returns-then-most-smallest t c =
+    let checked = c.args.grammar.now in
+    let least : least_at checked (right_node checked.rules c.args.sym) ≡ c.least-smallest.result =
+    ap (least_at checked) (sym c.rule_node-right.ensures.value) ∙ entry_is checked.leasts c.rule_node-right.result c.least-smallest.result c.least-smallest.ensures.value in
+    IfOk-weaker c.list_nothing.result _ _
+    (λ column h. h ∙ column_agree (λ size. []) (listing_of_rule checked c.args.sym) c.args.most
+    (λ size within. sym (right_listed checked c.requires.grammar c.args.sym size c.requires.low c.requires.high
+    ∙ ap (map (named c.args.sym)) (below_least checked c.requires.grammar (right_node checked.rules c.args.sym) size (omega (arith, least, within, c.if-most-smallest.true)))))) c.list_nothing.ensures
 
 pub list_rule_column-returns-in-Epsilon : goal.list_rule_column-returns-in-Epsilon
 list_rule_column-returns-in-Epsilon t c =
@@ -41,25 +65,52 @@ list_rule_column-returns-in-Atom t c =
 
 pub list_rule_column-list_node-requires : goal.list_rule_column-list_node-requires
 list_rule_column-list_node-requires t c =
+    let checked = c.args.grammar.now in
     let right_is : c.rule_node-right.result ≡ right_node c.args.grammar.now.rules c.args.sym = c.rule_node-right.ensures.value in
     let there : HasKind c.args.grammar.now (right_node c.args.grammar.now.rules c.args.sym) c.kind.result =
     subst (λ (node : ℕ). HasKind c.args.grammar.now node c.kind.result) right_is c.kind.ensures in
     let rank : rule_rank c.args.grammar.now c.args.sym ≡ rank_at c.args.grammar.now (right_node c.args.grammar.now.rules c.args.sym) + 1 =
-    told_rank c.args.grammar.now c.requires.grammar c.args.sym c.kind.result c.requires.low c.requires.high there c.in_default.not-Epsilon c.in_default.not-Atom in
-    (omega (arith, c.decreases, rank, ap (rank_at c.args.grammar.now) right_is), (c.requires.grammar, (c.rule_node-right.ensures.within, c.requires.size)))
+    told_rank c.args.grammar.now c.requires.grammar c.args.sym c.kind.result c.requires.low c.requires.high there (no_word c.kind.result c.in-Rule.is).0 (no_word c.kind.result c.in-Rule.is).1 in
+    let least : least_at checked c.rule_node-right.result ≡ c.least-smallest.result = entry_is checked.leasts c.rule_node-right.result c.least-smallest.result c.least-smallest.ensures.value in
+    let total = length (all_nodes checked.rules) in (
+      omega (
+        arith,
+        c.decreases,
+        rank,
+        ap (rank_at checked) right_is,
+        from_least_is c.args.most (least_at checked (right_node checked.rules c.args.sym)) (4 * (c.args.most * total + rule_rank checked c.args.sym))
+            (omega (arith, least, ap (least_at checked) right_is, c.if-most-smallest.false)),
+        from_least_is c.args.most (least_at checked c.rule_node-right.result) (4 * (c.args.most * total + rank_at checked c.rule_node-right.result) + 3)
+            (omega (arith, least, c.if-most-smallest.false)),
+      ),
+      (c.requires.grammar, (c.rule_node-right.ensures.within, c.requires.size)),
+    )
 
-pub list_rule_column-returns-in_ok-inside-in_default : goal.list_rule_column-returns-in_ok-inside-in_default
-list_rule_column-returns-in_ok-inside-in_default t c =
+pub list_rule_column-returns-in_ok-inside-in-Rule : goal.list_rule_column-returns-in_ok-inside-in-Rule
+list_rule_column-returns-in_ok-inside-in-Rule t c =
     let checked = c.args.grammar.now in
     let right = right_node checked.rules c.args.sym in
     IfOk-weaker c.name_column.result _ _
-    (λ column h. h ∙ ap (map (map (named c.args.sym))) c.in_ok-inside-in_default.ensures
+    (λ column h. h ∙ ap (map (map (named c.args.sym))) c.in_ok-inside-in-Rule.ensures
     ∙ ap (λ (node : ℕ). map (map (named c.args.sym)) (column_to (listing_of_node checked node) c.args.most)) c.rule_node-right.ensures.value
     ∙ mapped_column (map (named c.args.sym)) (listing_of_node checked right) c.args.most
     ∙ sym (column_same (listing_of_rule checked c.args.sym) (λ size. map (named c.args.sym) (listing_of_node checked right size)) c.args.most
     (λ size. right_listed checked c.requires.grammar c.args.sym size c.requires.low c.requires.high))) c.name_column.ensures
 
 -- ---- list_node
+
+-- a node whose least size is at most the size is measured by its rank
+measured : (checked : Checked) (node most least : ℕ) → slice_get checked.leasts node ≡ Some least → least ≤ most
+    → from_least most (least_at checked node) (4 * (most * length (all_nodes checked.rules) + rank_at checked node) + 3) ≡ 4 * (most * length (all_nodes checked.rules) + rank_at checked node) + 3
+measured checked node most least at within = from_least_is most (least_at checked node) _ (omega (arith, entry_is checked.leasts node least at, within))
+
+pub list_node-returns-then-most-least : goal.list_node-returns-then-most-least
+list_node-returns-then-most-least t c =
+    let checked = c.args.grammar.now in
+    let least : least_at checked c.args.node ≡ c.least-least.result = entry_is checked.leasts c.args.node c.least-least.result c.least-least.ensures.value in
+    IfOk-weaker c.list_nothing.result _ _
+    (λ column h. h ∙ column_agree (λ size. []) (listing_of_node checked c.args.node) c.args.most
+    (λ size within. sym (below_least checked c.requires.grammar c.args.node size (omega (arith, least, within, c.if-most-least.true))))) c.list_nothing.ensures
 
 pub list_node-returns-in-Epsilon : goal.list_node-returns-in-Epsilon
 list_node-returns-in-Epsilon t c =
@@ -82,9 +133,14 @@ list_node-returns-in-Atom t c =
 pub list_node-list_rule_column-requires : goal.list_node-list_rule_column-requires
 list_node-list_rule_column-requires t c =
     let is : HasKind c.args.grammar.now c.args.node told.Rule = c.kind.ensures ∙ ap (λ kind. Some kind) c.in-Rule.is in
-    let falls : rule_rank c.args.grammar.now c.sym.result ≤ rank_at c.args.grammar.now c.args.node =
-    rule_falls c.args.grammar.now c.requires.grammar c.args.node c.sym.result is c.sym.ensures.value in
-    (omega (arith, c.decreases, falls), (c.requires.grammar, (c.sym.ensures.low, (c.sym.ensures.high, c.requires.size))))
+    let checked = c.args.grammar.now in
+    let whole = measured checked c.args.node c.args.most c.least-least.result c.least-least.ensures.value c.if-most-least.false in
+    let right = least_at checked (right_node checked.rules c.sym.result) in
+    let falls : right ≤ c.args.most → 4 * (c.args.most * length (all_nodes checked.rules) + rule_rank checked c.sym.result) < t =
+    λ within. omega (arith, c.decreases, whole, rule_falls checked c.requires.grammar c.args.node c.sym.result is c.sym.ensures.value (omega (arith, within, c.requires.size))) in (
+      from_least_below c.args.most right _ t (omega (arith, c.decreases, whole)) falls,
+      (c.requires.grammar, (c.sym.ensures.low, (c.sym.ensures.high, c.requires.size))),
+    )
 
 pub list_node-returns-in-Rule : goal.list_node-returns-in-Rule
 list_node-returns-in-Rule t c =
@@ -94,10 +150,36 @@ list_node-returns-in-Rule t c =
     (λ column h. h ∙ sym (column_same (listing_of_node checked c.args.node) (listing_of_rule checked c.sym.result) c.args.most
     (λ size. rule_listed checked c.requires.grammar c.args.node c.sym.result size is c.sym.ensures.value))) c.list_rule_column.ensures
 
-pub list_node-returns-in_default : goal.list_node-returns-in_default
-list_node-returns-in_default t c =
-    absurd (none_is_other c.args.grammar.now c.requires.grammar c.args.node c.kind.result c.kind.ensures
-    c.in_default.not-Epsilon c.in_default.not-Atom c.in_default.not-Rule c.in_default.not-Union c.in_default.not-Prod c.in_default.not-Sequence)
+pub list_node-list_union-requires : goal.list_node-list_union-requires
+list_node-list_union-requires t c =
+    let checked = c.args.grammar.now in
+    let is : HasKind checked c.args.node told.Union = c.kind.ensures ∙ ap (λ kind. Some kind) c.in-Union.is in
+    let whole = measured checked c.args.node c.args.most c.least-least.result c.least-least.ensures.value c.if-most-least.false in
+    (omega (arith, c.decreases, whole), (c.requires.grammar, (is, c.requires.size)))
+
+pub list_node-list_prod-requires : goal.list_node-list_prod-requires
+list_node-list_prod-requires t c =
+    let checked = c.args.grammar.now in
+    let is : HasKind checked c.args.node told.Prod = c.kind.ensures ∙ ap (λ kind. Some kind) c.in-Prod.is in
+    let whole = measured checked c.args.node c.args.most c.least-least.result c.least-least.ensures.value c.if-most-least.false in
+    let least = entry_is checked.leasts c.args.node c.least-least.result c.least-least.ensures.value in
+    (omega (arith, c.decreases, whole), (c.requires.grammar, (is, (c.requires.size, omega (arith, least, c.if-most-least.false)))))
+
+pub list_node-list_sequence-requires : goal.list_node-list_sequence-requires
+list_node-list_sequence-requires t c =
+    let checked = c.args.grammar.now in
+    let is : HasKind checked c.args.node told.Sequence = c.kind.ensures ∙ ap (λ kind. Some kind) c.in-Sequence.is in
+    let whole = measured checked c.args.node c.args.most c.least-least.result c.least-least.ensures.value c.if-most-least.false in
+    (omega (arith, c.decreases, whole), (c.requires.grammar, (is, c.requires.size)))
+
+-- no node is of another kind
+no_other : (checked : Checked) → IsListable checked → (node : ℕ) (k : NodeKind) → HasKind checked node k → (k ≡ told.Set) ⊎ ((k ≡ told.PowerSet) ⊎ (k ≡ told.Cycle)) → ⊥
+no_other checked ok node k h (inl is) = none_is_other checked ok node k h (λ e. cc) (λ e. cc) (λ e. cc) (λ e. cc) (λ e. cc) (λ e. cc)
+no_other checked ok node k h (inr (inl is)) = none_is_other checked ok node k h (λ e. cc) (λ e. cc) (λ e. cc) (λ e. cc) (λ e. cc) (λ e. cc)
+no_other checked ok node k h (inr (inr is)) = none_is_other checked ok node k h (λ e. cc) (λ e. cc) (λ e. cc) (λ e. cc) (λ e. cc) (λ e. cc)
+
+pub list_node-unreachable-requires : goal.list_node-unreachable-requires
+list_node-unreachable-requires t c = no_other c.args.grammar.now c.requires.grammar c.args.node c.kind.result c.kind.ensures c.in-Set.is
 
 -- ---- list_union
 
@@ -134,9 +216,11 @@ list_union-returns t c =
 pub list_arguments-list_node-requires : goal.list_arguments-list_node-requires
 list_arguments-list_node-requires t c =
     let at = child_at (children_at c.args.grammar.now.rules c.args.node) c.loop-place.place c.child.result c.child.ensures.value in
-    let falls : rank_at c.args.grammar.now c.child.result < rank_at c.args.grammar.now c.args.node =
-    union_falls c.args.grammar.now c.requires.grammar c.args.node c.loop-place.place c.child.result c.requires.node at in
-    (omega (arith, c.decreases, falls), (c.requires.grammar, (c.child.ensures.within, c.requires.size)))
+    let checked = c.args.grammar.now in
+    let least = least_at checked c.child.result in
+    let falls : least ≤ c.args.most → 4 * (c.args.most * length (all_nodes checked.rules) + rank_at checked c.child.result) + 3 < t =
+    λ within. omega (arith, c.decreases, union_falls checked c.requires.grammar c.args.node c.loop-place.place c.child.result c.requires.node at (omega (arith, within, c.requires.size))) in
+    (from_least_below c.args.most least _ t (omega (arith, c.decreases)) falls, (c.requires.grammar, (c.child.ensures.within, c.requires.size)))
 
 pub list_arguments-loop-place-preserved : goal.list_arguments-loop-place-preserved
 list_arguments-loop-place-preserved t c =
@@ -154,27 +238,19 @@ list_arguments-returns t c =
 
 -- ---- list_prod
 
-pub list_prod-returns-then-most-least : goal.list_prod-returns-then-most-least
-list_prod-returns-then-most-least t c =
-    let checked = c.args.grammar.now in
-    let least : least_at checked c.args.node ≡ c.least-least.result = entry_is checked.leasts c.args.node c.least-least.result c.least-least.ensures.value in
-    IfOk-weaker c.list_nothing.result _ _
-    (λ column h. h ∙ column_agree (λ size. []) (listing_of_node checked c.args.node) c.args.most
-    (λ size within. sym (below_least checked c.requires.grammar c.args.node size (omega (arith, least, within, c.if-most-least.true))))) c.list_nothing.ensures
-
 pub list_prod-wrap_column-requires : goal.list_prod-wrap_column-requires
 list_prod-wrap_column-requires t c =
     let checked = c.args.grammar.now in
     let least : least_at checked c.args.node ≡ c.least-least.result = entry_is checked.leasts c.args.node c.least-least.result c.least-least.ensures.value in
     subst (All (All HaveFewAtoms)) (sym c.in_ok-lists.ensures)
     (column_all (All HaveFewAtoms) (components_from checked c.args.node 0) (least_at checked c.args.node + (c.args.most - c.least-least.result)) (λ k within.
-    prod_atoms checked c.requires.grammar c.args.node k c.requires.node (omega (arith, least, within, c.if-most-least.false, c.requires.size))))
+    prod_atoms checked c.requires.grammar c.args.node k c.requires.node (omega (arith, least, within, c.requires.least, c.requires.size))))
 
 pub list_prod-returns : goal.list_prod-returns
 list_prod-returns t c =
     let checked = c.args.grammar.now in
     let least : least_at checked c.args.node ≡ c.least-least.result = entry_is checked.leasts c.args.node c.least-least.result c.least-least.ensures.value in
-    let whole : least_at checked c.args.node + (c.args.most - c.least-least.result) ≡ c.args.most = omega (arith, least, c.if-most-least.false) in
+    let whole : least_at checked c.args.node + (c.args.most - c.least-least.result) ≡ c.args.most = omega (arith, least, c.requires.least) in
     IfOk-weaker c.wrap_column.result _ _
     (λ column h. h ∙ ap (map (map product)) c.in_ok-lists.ensures
     ∙ mapped_column (map product) (components_from checked c.args.node 0) (least_at checked c.args.node + (c.args.most - c.least-least.result))
@@ -204,7 +280,8 @@ list_columns-list_node-requires t c =
     let falls = column_below (length (all_nodes checked.rules)) (c.least.result + c.args.spare) (least_at checked c.args.node + c.args.spare) (rank_at checked c.args.node)
     (rank_at checked c.child-child.result) most (rank_within checked c.requires.grammar c.child-child.result c.child-child.ensures.within)
     (λ same. prod_falls checked c.requires.grammar c.args.node c.loop-place.place c.child-child.result c.requires.node small at (omega (arith, same, least))) in
-    (omega (arith, c.decreases, falls), (c.requires.grammar, (c.child-child.ensures.within, omega (arith, most))))
+    let whole = measured checked c.child-child.result (c.least.result + c.args.spare) c.least.result c.least.ensures.value (omega arith) in
+    (omega (arith, c.decreases, falls, whole), (c.requires.grammar, (c.child-child.ensures.within, omega (arith, most))))
 
 pub list_columns-loop-place-preserved : goal.list_columns-loop-place-preserved
 list_columns-loop-place-preserved t c =
@@ -256,12 +333,20 @@ list_element-list_node-requires t c =
     let least : least_at checked c.args.element ≡ c.least.result = entry_is checked.leasts c.args.element c.least.result c.least.ensures.value in
     let together : c.saturating_sub.result * c.least.result ≡ (c.args.card.low - 1) * least_at checked c.args.element = (λ i. c.saturating_sub.ensures i * sym least i) in
     let some : 1 ≤ least_at checked c.args.element = element_least checked c.requires.grammar c.args.element is in
-    let falls = column_below (length (all_nodes checked.rules)) (c.args.most - c.saturating_mul-others.result) c.args.most (rank_at checked c.args.node) (rank_at checked c.args.element) (omega arith)
-    (rank_within checked c.requires.grammar c.args.element within) (λ same.
-    sequence_falls checked c.requires.grammar c.args.node c.args.element c.args.card c.requires.node c.requires.element c.requires.card
-    (none_other c.args.card.low (least_at checked c.args.element) some (omega (arith, same, together, c.saturating_mul-others.ensures, c.if-most-others.false, c.requires.size)))
-    (is_some c.args.card.high (sym c.if-eq.ensures))) in
-    (omega (arith, c.decreases, falls), (c.requires.grammar, (within, omega (arith, c.requires.size))))
+    let total = length (all_nodes checked.rules) in
+    let falls : least_at checked c.args.element ≤ c.args.most - c.saturating_mul-others.result → 4 * ((c.args.most - c.saturating_mul-others.result) * total + rank_at checked c.args.element) + 3 < t =
+    λ enough. omega (
+      arith,
+      c.decreases,
+      column_below total (c.args.most - c.saturating_mul-others.result) c.args.most (rank_at checked c.args.node) (rank_at checked c.args.element) (omega arith)
+          (rank_within checked c.requires.grammar c.args.element within) (λ same.
+          sequence_falls checked c.requires.grammar c.args.node c.args.element c.args.card c.requires.node c.requires.element c.requires.card
+          (none_other c.args.card.low (least_at checked c.args.element) some (omega (arith, same, together, c.saturating_mul-others.ensures, c.if-most-others.false, c.requires.size)))
+          (is_some c.args.card.high (sym c.if-eq.ensures)) (omega (arith, enough, c.requires.size))),
+    ) in (
+      from_least_below (c.args.most - c.saturating_mul-others.result) (least_at checked c.args.element) _ t (omega (arith, c.decreases)) falls,
+      (c.requires.grammar, (within, omega (arith, c.requires.size))),
+    )
 
 pub list_element-returns : goal.list_element-returns
 list_element-returns t c =

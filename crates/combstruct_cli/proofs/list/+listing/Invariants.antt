@@ -1,16 +1,18 @@
 use Rattle.std.proofs.Common.{◌≡◌, ◌+◌, ◌*◌, length, map, take}
 use Rattle.std.specs.List.{range_with_len}
 use Rattle.spec_syntax.specs.Rules.{all_nodes}
-use Rattle.spec_syntax.specs.Nodes.{children_at}
+use Rattle.spec_syntax.specs.Nodes.{children_at, right_node}
 use Rattle.combstruct_cli.specs.Columns.{column_to}
 use Rattle.combstruct_cli.specs.NodeListing.{listing_of_node, least_at, column_of, rank_at, rule_rank}
+use Rattle.combstruct_cli.proofs.Measures.{from_least}
 use Rattle.combstruct_cli.proofs.list.+listing.Given as goal
 
 abbrev pub decreases-list_rule_column : goal.decreases-list_rule_column
-decreases-list_rule_column l = 4 * (l.most * length (all_nodes l.grammar.now.rules) + rule_rank l.grammar.now l.sym)
+decreases-list_rule_column l =
+    from_least l.most (least_at l.grammar.now (right_node l.grammar.now.rules l.sym)) (4 * (l.most * length (all_nodes l.grammar.now.rules) + rule_rank l.grammar.now l.sym))
 
 abbrev pub decreases-list_node : goal.decreases-list_node
-decreases-list_node l = 4 * (l.most * length (all_nodes l.grammar.now.rules) + rank_at l.grammar.now l.node) + 3
+decreases-list_node l = from_least l.most (least_at l.grammar.now l.node) (4 * (l.most * length (all_nodes l.grammar.now.rules) + rank_at l.grammar.now l.node) + 3)
 
 abbrev pub decreases-list_union : goal.decreases-list_union
 decreases-list_union l = 4 * (l.most * length (all_nodes l.grammar.now.rules) + rank_at l.grammar.now l.node) + 2
