@@ -4,7 +4,7 @@
 //! 16, 1958): each round takes for each rule the least size of its right side by what the round before said of names, from
 //! knowing none at all, until a round changes nothing.
 ghost use Rattle.std.specs.Prelude.{◌≡◌, length, replicate, All, IfOk, IsTrue, Option, Some, None};
-ghost use Rattle.spec_syntax.specs.Expression.{expressions_of, Atom as AtomOf, Name as NameOf, Prod as ProdOf, more_expressions, no_expressions};
+ghost use Rattle.spec_syntax.specs.Expression.{expressions_of};
 ghost use Rattle.spec_syntax.specs.Rules.{is_spec};
 ghost use Rattle.well_founded.specs.Least.{IsSmall, AreSizes, lesser, together, fewest, copies, least_of_many, least_with, least_of_some, least_of_all, size_of_name, next_sizes};
 
@@ -169,56 +169,5 @@ pub(crate) fn least_sizes(alloc: Global, spec: &Spec) -> Result<Vec<Option<u32>>
             return Ok(sizes);
         }
         sizes = next;
-    }
-}
-
-#[cfg(test)]
-mod tests {
-    use super::*;
-    use spec_syntax::{Exprs, Name};
-    use std::test::Fail;
-
-    /// The rule with this name.
-    fn named(alloc: Global, name: &[u8]) -> Result<Expr, AllocError>
-        ensures { IfOk result (λ expr. expr ≡ NameOf name.now) }
-    {
-        Ok(Expr {
-            shape: ExprShape::Name(Name::from_slice(alloc, name)?),
-        })
-    }
-
-    /// An atom and a structure of the other expression.
-    fn with_atom(alloc: Global, other: Expr) -> Result<Expr, AllocError>
-        ensures { IfOk result (λ expr. expr ≡ ProdOf (more_expressions AtomOf (more_expressions other no_expressions))) }
-    {
-        let mut arguments = Exprs::new(alloc);
-        arguments.push(Expr {
-            shape: ExprShape::Atom,
-        })?;
-        arguments.push(other)?;
-        Ok(Expr {
-            shape: ExprShape::Prod(arguments),
-        })
-    }
-
-    #[test]
-    fn sizes_of_three_rules(rt: HostRuntime) -> Result<(), Fail> {
-        let alloc = rt.alloc();
-        let mut spec = Spec::new(alloc);
-        let two_atoms = with_atom(alloc, with_atom(alloc, named(alloc, b"B")?)?)?;
-        spec.add(Name::from_slice(alloc, b"A")?, two_atoms)?;
-        spec.add(
-            Name::from_slice(alloc, b"B")?,
-            Expr {
-                shape: ExprShape::Epsilon,
-            },
-        )?;
-        spec.add(
-            Name::from_slice(alloc, b"C")?,
-            with_atom(alloc, named(alloc, b"C")?)?,
-        )?;
-        let sizes = least_sizes(alloc, &spec)?;
-        assert!(rt; sizes.as_slice() == [Some(2), Some(0), None].as_slice());
-        Ok(())
     }
 }

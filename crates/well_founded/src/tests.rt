@@ -99,67 +99,38 @@ fn of_rule(alloc: Global, name: &[u8], right: Expr) -> Result<Spec, AllocError>
     Ok(spec)
 }
 
-/// Whether the rule with this name is refused as endless, with this least size.
-fn is_endless(answer: Result<Grammar, Refused>, rule: &[u8], size: u32) -> bool {
+/// What the check says, the letter of the name that it tells, and the least size.
+fn told(answer: Result<Grammar, Refused>) -> (&'static str, u8, u32) {
     match answer {
-        Err(Refused::Endless(name, least)) => name.as_slice() == rule && least == size,
-        _ => false,
+        Ok(_) => ("passes", 0, 0),
+        Err(Refused::Undefined(name)) => ("undefined", letter(&name), 0),
+        Err(Refused::CycleUnlabelled(name)) => ("cycle", letter(&name), 0),
+        Err(Refused::Unproductive(name)) => ("unproductive", letter(&name), 0),
+        Err(Refused::NullElement(name)) => ("null", letter(&name), 0),
+        Err(Refused::Endless(name, size)) => ("endless", letter(&name), size),
+        Err(Refused::Memory) => ("memory", 0, 0),
     }
 }
 
-/// Whether the rule with this name is refused since it has no structure.
-fn is_unproductive(answer: Result<Grammar, Refused>, rule: &[u8]) -> bool {
-    match answer {
-        Err(Refused::Unproductive(name)) => name.as_slice() == rule,
-        _ => false,
-    }
-}
-
-/// Whether this name is refused since it has no rule.
-fn is_undefined(answer: Result<Grammar, Refused>, used: &[u8]) -> bool {
-    match answer {
-        Err(Refused::Undefined(name)) => name.as_slice() == used,
-        _ => false,
-    }
-}
-
-/// Whether the rule with this name is refused for a container over a class with a structure of size 0.
-fn is_over_null(answer: Result<Grammar, Refused>, rule: &[u8]) -> bool {
-    match answer {
-        Err(Refused::NullElement(name)) => name.as_slice() == rule,
-        _ => false,
-    }
-}
-
-/// Whether the rule with this name is refused for a Cycle in the unlabelled universe.
-fn is_cycle(answer: Result<Grammar, Refused>, rule: &[u8]) -> bool {
-    match answer {
-        Err(Refused::CycleUnlabelled(name)) => name.as_slice() == rule,
-        _ => false,
-    }
+/// The first letter of a name.
+fn letter(name: &Name) -> u8 {
+    name.as_slice().first().copied().unwrap_or(0)
 }
 
 /// `T = Union(Z, T)`.
 fn union_over_itself(alloc: Global) -> Result<Spec, AllocError> {
-    let mut spec = Spec::new(alloc);
-    let right = union_of(alloc, atom(), named(alloc, b"T")?)?;
-    spec.add(Name::from_slice(alloc, b"T")?, right)?;
-    Ok(spec)
+    of_rule(alloc, b"T", union_of(alloc, atom(), named(alloc, b"T")?)?)
 }
 
 /// `T = Prod(Z, T)`.
 fn without_end(alloc: Global) -> Result<Spec, AllocError> {
-    let mut spec = Spec::new(alloc);
-    let right = prod_of(alloc, atom(), named(alloc, b"T")?)?;
-    spec.add(Name::from_slice(alloc, b"T")?, right)?;
-    Ok(spec)
+    of_rule(alloc, b"T", prod_of(alloc, atom(), named(alloc, b"T")?)?)
 }
 
 /// `S = Prod(Z, A), A = Union(Z, A)`.
 fn later_at_fault(alloc: Global) -> Result<Spec, AllocError> {
-    let mut spec = Spec::new(alloc);
     let first = prod_of(alloc, atom(), named(alloc, b"A")?)?;
-    spec.add(Name::from_slice(alloc, b"S")?, first)?;
+    let mut spec = of_rule(alloc, b"S", first)?;
     let second = union_of(alloc, atom(), named(alloc, b"A")?)?;
     spec.add(Name::from_slice(alloc, b"A")?, second)?;
     Ok(spec)
@@ -167,29 +138,11 @@ fn later_at_fault(alloc: Global) -> Result<Spec, AllocError> {
 
 /// `T = Union(Prod(Z, Z), Prod(E, T)), E = Epsilon`.
 fn beside_nothing(alloc: Global) -> Result<Spec, AllocError> {
-    let mut spec = Spec::new(alloc);
     let two = prod_of(alloc, atom(), atom())?;
     let more = prod_of(alloc, named(alloc, b"E")?, named(alloc, b"T")?)?;
-    spec.add(Name::from_slice(alloc, b"T")?, union_of(alloc, two, more)?)?;
+    let mut spec = of_rule(alloc, b"T", union_of(alloc, two, more)?)?;
     spec.add(Name::from_slice(alloc, b"E")?, empty())?;
     Ok(spec)
-}
-
-#[test]
-fn grammars_that_are_refused(rt: HostRuntime) -> Result<(), Fail> {
-    let alloc = rt.alloc();
-    let universe = Universe::Unlabelled;
-    let spec = union_over_itself(alloc)?;
-    assert!(rt; is_endless(check(alloc, &spec, None, universe), b"T", 1));
-    let other = Name::from_slice(alloc, b"U")?;
-    assert!(rt; is_undefined(check(alloc, &spec, Some(&other), universe), b"U"));
-    let spec = without_end(alloc)?;
-    assert!(rt; is_unproductive(check(alloc, &spec, None, universe), b"T"));
-    let spec = later_at_fault(alloc)?;
-    assert!(rt; is_endless(check(alloc, &spec, None, universe), b"A", 1));
-    let spec = beside_nothing(alloc)?;
-    assert!(rt; is_endless(check(alloc, &spec, None, universe), b"T", 2));
-    Ok(())
 }
 
 /// `S = Sequence(Union(Z, Epsilon))`.
@@ -242,17 +195,34 @@ fn rounds(alloc: Global, card: Card) -> Result<Spec, AllocError>
 }
 
 #[test]
+fn grammars_that_are_refused(rt: HostRuntime) -> Result<(), Fail> {
+    let alloc = rt.alloc();
+    let universe = Universe::Unlabelled;
+    let spec = union_over_itself(alloc)?;
+    assert!(rt; told(check(alloc, &spec, None, universe)) == ("endless", b'T', 1));
+    let other = Name::from_slice(alloc, b"U")?;
+    assert!(rt; told(check(alloc, &spec, Some(&other), universe)) == ("undefined", b'U', 0));
+    let spec = without_end(alloc)?;
+    assert!(rt; told(check(alloc, &spec, None, universe)) == ("unproductive", b'T', 0));
+    let spec = later_at_fault(alloc)?;
+    assert!(rt; told(check(alloc, &spec, None, universe)) == ("endless", b'A', 1));
+    let spec = beside_nothing(alloc)?;
+    assert!(rt; told(check(alloc, &spec, None, universe)) == ("endless", b'T', 2));
+    Ok(())
+}
+
+#[test]
 fn containers_over_nothing(rt: HostRuntime) -> Result<(), Fail> {
     let alloc = rt.alloc();
     let universe = Universe::Unlabelled;
     let spec = words_of_maybe(alloc)?;
-    assert!(rt; is_over_null(check(alloc, &spec, None, universe), b"S"));
+    assert!(rt; told(check(alloc, &spec, None, universe)) == ("null", b'S', 0));
     let spec = no_word_of_nothing(alloc)?;
-    assert!(rt; is_over_null(check(alloc, &spec, None, universe), b"S"));
+    assert!(rt; told(check(alloc, &spec, None, universe)) == ("null", b'S', 0));
     let spec = over_itself(alloc, Kind::Sequence, ANY)?;
-    assert!(rt; is_over_null(check(alloc, &spec, None, universe), b"T"));
+    assert!(rt; told(check(alloc, &spec, None, universe)) == ("null", b'T', 0));
     let spec = two_faults(alloc)?;
-    assert!(rt; is_unproductive(check(alloc, &spec, None, universe), b"T"));
+    assert!(rt; told(check(alloc, &spec, None, universe)) == ("unproductive", b'T', 0));
     Ok(())
 }
 
@@ -261,13 +231,13 @@ fn containers_over_themselves(rt: HostRuntime) -> Result<(), Fail> {
     let alloc = rt.alloc();
     let universe = Universe::Unlabelled;
     let spec = over_itself(alloc, Kind::Sequence, at_least(1))?;
-    assert!(rt; is_unproductive(check(alloc, &spec, None, universe), b"T"));
+    assert!(rt; told(check(alloc, &spec, None, universe)) == ("unproductive", b'T', 0));
     let spec = over_itself(alloc, Kind::Set, exactly(1))?;
-    assert!(rt; is_unproductive(check(alloc, &spec, None, universe), b"T"));
+    assert!(rt; told(check(alloc, &spec, None, universe)) == ("unproductive", b'T', 0));
     let spec = or_over_itself(alloc, Kind::Sequence, exactly(1))?;
-    assert!(rt; is_endless(check(alloc, &spec, None, universe), b"T", 1));
+    assert!(rt; told(check(alloc, &spec, None, universe)) == ("endless", b'T', 1));
     let spec = or_over_itself(alloc, Kind::Sequence, at_least(2))?;
-    assert!(rt; check(alloc, &spec, None, universe).is_ok());
+    assert!(rt; told(check(alloc, &spec, None, universe)) == ("passes", 0, 0));
     Ok(())
 }
 
@@ -275,19 +245,17 @@ fn containers_over_themselves(rt: HostRuntime) -> Result<(), Fail> {
 fn cycles(rt: HostRuntime) -> Result<(), Fail> {
     let alloc = rt.alloc();
     let spec = rounds(alloc, ANY)?;
-    assert!(rt; is_cycle(check(alloc, &spec, None, Universe::Unlabelled), b"S"));
-    assert!(rt; check(alloc, &spec, None, Universe::Labelled).is_ok());
+    assert!(rt; told(check(alloc, &spec, None, Universe::Unlabelled)) == ("cycle", b'S', 0));
+    assert!(rt; told(check(alloc, &spec, None, Universe::Labelled)) == ("passes", 0, 0));
     let spec = rounds(alloc, exactly(0))?;
-    assert!(rt; is_unproductive(check(alloc, &spec, None, Universe::Labelled), b"S"));
+    assert!(rt; told(check(alloc, &spec, None, Universe::Labelled)) == ("unproductive", b'S', 0));
     Ok(())
 }
 
 /// `T = Union(Z, Prod(E, T))`, where `E` is an atom.
 fn words(alloc: Global) -> Result<Spec, AllocError> {
-    let mut spec = Spec::new(alloc);
     let more = prod_of(alloc, named(alloc, b"E")?, named(alloc, b"T")?)?;
-    let right = union_of(alloc, atom(), more)?;
-    spec.add(Name::from_slice(alloc, b"T")?, right)?;
+    let mut spec = of_rule(alloc, b"T", union_of(alloc, atom(), more)?)?;
     spec.add(Name::from_slice(alloc, b"E")?, atom())?;
     Ok(spec)
 }
@@ -385,7 +353,11 @@ fn cards(alloc: Global, grammar: &Grammar) -> Result<Vec<Card>, AllocError> {
             NodeKind::Sequence | NodeKind::Set | NodeKind::PowerSet | NodeKind::Cycle => {
                 cards.push(grammar.card(node))?
             }
-            _ => {}
+            NodeKind::Epsilon
+            | NodeKind::Atom
+            | NodeKind::Rule
+            | NodeKind::Union
+            | NodeKind::Prod => {}
         }
     }
     Ok(cards)
