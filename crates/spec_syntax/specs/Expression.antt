@@ -1,7 +1,7 @@
 -- Expressions as plain trees.
 use Rattle.std.specs.Prelude.{ℕ, Bool, true, false, ◌&&◌, List, [], ◌∷◌, ◌++◌, length}
 use Rattle.spec_syntax.specs.declared.expr.Kind.{Kind}
-use Rattle.spec_syntax.specs.declared.expr.Kind.TheVariants.{Sequence}
+use Rattle.spec_syntax.specs.declared.expr.Kind.TheVariants.{Sequence, Set, PowerSet, Cycle}
 use Rattle.spec_syntax.specs.declared.expr.Card.{Card}
 use Rattle.spec_syntax.specs.Card.{is_writable}
 
@@ -53,9 +53,15 @@ has_some (more_expressions e es) = true
 
 -- is the expression no container, or a Sequence
 abbrev pub is_sequence_at_most : Expression → Bool
+is_sequence_at_most Epsilon = true
+is_sequence_at_most Atom = true
+is_sequence_at_most (Name name) = true
+is_sequence_at_most (Union arguments) = true
+is_sequence_at_most (Prod arguments) = true
 is_sequence_at_most (Many Sequence element card) = true
-is_sequence_at_most (Many _ element card) = false
-is_sequence_at_most e = true
+is_sequence_at_most (Many Set element card) = false
+is_sequence_at_most (Many PowerSet element card) = false
+is_sequence_at_most (Many Cycle element card) = false
 
 abbrev mutual
   -- has each Union and each Prod an argument, and can each bound be written
