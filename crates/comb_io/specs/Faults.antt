@@ -1,4 +1,4 @@
--- When a source, a shelf or a sink fails: exactly where its count of faults rose.
+-- What the count of faults tells of a call on a source, a shelf or a sink.
 use Rattle.std.specs.Prelude.{◌≡◌, ℕ, ◌+◌, ◌-◌, ◌^◌, ◌≤◌, min, OnOk, OnErr, IfErr, MatchResult, Result}
 use Rattle.comb_io.specs.declared.sinks.SinkFault.{SinkFault}
 use Rattle.comb_io.specs.declared.sinks.SinkFault.TheVariants.{Failed, Memory}
@@ -13,7 +13,7 @@ pub record HasCause {A E : Type 0} (before now : ℕ) (result : Result A E) : Ty
   pub failed : OnErr result (Rose before now)
   pub kept : OnOk result (now ≡ before)
 
--- the count of a call on a sink that took nothing: it rose where the sink failed, and is as it was for want of memory
+-- the count where a call on a sink ended with this fault: it rose where the sink failed, and is as it was for want of memory
 abbrev pub FaultCounts : SinkFault → ℕ → ℕ → Type 0
 FaultCounts Failed before now = Rose before now
 FaultCounts Memory before now = now ≡ before

@@ -6,7 +6,7 @@ ghost use Rattle.comb_io.specs.Parts.{AppendsProperPrefix};
 
 use thiserror::Error;
 
-/// Why a sink took nothing.
+/// Why a call on a sink took nothing more.
 #[derive(Clone, Copy, Debug, PartialEq, Eq, Error)]
 pub enum SinkFault {
     #[error("the sink failed")]

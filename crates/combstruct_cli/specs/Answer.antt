@@ -49,7 +49,7 @@ refusing line why = record { writes = to_err (refusal_line line why); is_refused
 abbrev pub followed_by : Effect → Effect → Effect
 followed_by first second = record { writes = first.writes ++ second.writes; is_refused = first.is_refused || second.is_refused }
 
--- a refusal is told in this line; want of memory tells none
+-- a refusal is told in this line; want of memory has no effect that could be stated
 abbrev pub Refuses : ℕ → Option Refusal → Effect → Type 0
 Refuses line (Some why) whole = whole ≡ refusing line why
 Refuses line None whole = ⊥

@@ -12,7 +12,7 @@ use Rattle.combstruct_cli.specs.Answer.{Effect, Answer}
 
 -- ---- whose fault it was
 
--- the count of faults of an object rose, and didn't fall
+-- the count of faults of an object rose or stands at the last value of its counter, and isn't lower than before
 pub record Rises (before now : ℕ) : Type 0 where
   pub later : before ≤ now
   pub rose : Rose before now
@@ -21,7 +21,7 @@ pub record Rises (before now : ℕ) : Type 0 where
 abbrev pub NoneRises : ℕ → ℕ → ℕ → ℕ → ℕ → ℕ → Type 0
 NoneRises input input' out out' err err' = (input' ≡ input) × (out' ≡ out) × (err' ≡ err)
 
--- the count of the object whose fault it was rose, and no other
+-- the count of the object whose fault it was rose, and no other; for want of memory none did
 abbrev pub Blames : ℕ → ℕ → ℕ → ℕ → ℕ → ℕ → Fault → Type 0
 Blames input input' out out' err err' fault.Input = Rises input input' × (out' ≡ out) × (err' ≡ err)
 Blames input input' out out' err err' fault.Output = (input' ≡ input) × Rises out out' × (err' ≡ err)

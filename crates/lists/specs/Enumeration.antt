@@ -1,4 +1,4 @@
--- Lists that have each element with a property once, in an order.
+-- Lists that have each element with a property, in an order, and once where nothing comes before itself.
 use Rattle.std.specs.Prelude.{◌≡◌, ◌⊎◌, List, [], ◌∷◌}
 
 -- is one of the elements

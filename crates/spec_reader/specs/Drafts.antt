@@ -67,7 +67,7 @@ rebound change [] = []
 rebound change (Several former arguments ∷ pending) = Several former arguments ∷ pending
 rebound change (Container kind element bound ∷ pending) = Container kind element (change bound) ∷ pending
 
--- its bound has this part
+-- the innermost expression that is not whole, where it is a container, has this part in its bound
 abbrev pub rebind : BoundPart → Draft → Draft
 rebind new draft = record draft { pending = rebound (with_part new) draft.pending }
 

@@ -12,10 +12,6 @@ use Rattle.spec_syntax.specs.Rules.{Rules, symbol, all_nodes}
 abbrev pub node_at : Rules → ℕ → Option Expression
 node_at rules n = slice_get (all_nodes rules) n
 
--- the nodes, each with its number
-abbrev pub numbered_nodes : Rules → List (ℕ × Expression)
-numbered_nodes rules = enumerate_from 0 (all_nodes rules)
-
 -- the name, where the expression is one
 abbrev pub name_of : Expression → Option (List ℕ)
 name_of Epsilon = None

@@ -26,7 +26,7 @@ split_into part rest = record { part = supply_labels part; rest = supply_labels 
 abbrev pub to_come : Supply → ℕ → ℕ → Option Supply → List Split
 to_come supply low high coming = from_part (option_map supply_labels coming) (parts low high (supply_labels supply))
 
--- a walk over parts of the supply, with the coming part
+-- what contracts see of a walk over the supply's parts from the coming one on
 abbrev pub walk_of : Supply → ℕ → ℕ → Option Supply → Walk
 walk_of supply low high coming = record { universe = supply_universe supply; left = to_come supply low high coming }
 

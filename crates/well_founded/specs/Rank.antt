@@ -46,8 +46,8 @@ pub record AreRanks (g : Grammar) (ranks : List ℕ) : Type 0 where
   pub for_each : length ranks ≡ length (all_nodes g.rules)
   pub each : (n r : ℕ) (e : Expression) → node_at g.rules n ≡ Some e → slice_get ranks n ≡ Some r → IsRank g ranks n e r
 
--- can a structure of node number m, at the place below the expression, which is node number n, have all the atoms of the one
--- around it, as told by least sizes
+-- can a structure of node number m, at the place below the expression, which is node number n, have all the atoms of the
+-- structure around it, as told by least sizes; of a name's structure it has them, where the right side isn't a word
 abbrev pub CanHaveAll : Rules → List ℕ → ℕ → Expression → ℕ → ℕ → Type 0
 CanHaveAll rules leasts n expr.Epsilon place m = ⊥
 CanHaveAll rules leasts n expr.Atom place m = ⊥

@@ -146,8 +146,9 @@ impl Grammar {
     }
 
     /// The rank of the node. It is below the number of nodes, and above the rank of each child, or named rule's node, whose
-    /// structure can stand directly inside one of this node's of the same size, with each PowerSet read as Set. Where that is so
-    /// is also told by least sizes alone.
+    /// structure can stand directly inside one of this node's of the same size, with each PowerSet read as Set. It is
+    /// also above that of each child, or of a named right side that isn't a word, with a least size of at most 1000, where in a
+    /// Prod the least sizes of all other components are 0 and in a container the bound admits one component.
     pub fn rank(&self, node: u32) -> u32
         requires { node < length (all_nodes self.now.rules) }
         ensures value { slice_get self.now.ranks node ≡ Some result }
