@@ -1,7 +1,8 @@
 //! The structures of a class of one size, in ascending order.
 //!
 //! A listing goes from a node of the grammar down to those below it, each for all sizes up to a greatest one, on the labels
-//! that a structure of the size carries. That size never grows on the way, and where it stays the rank falls.
+//! that a structure of the size carries. Below the least size of a node nothing is listed. Above it the size never grows on
+//! the way, and where it stays the rank falls.
 ghost use Rattle.std.specs.Prelude.{◌≡◌, ◌+◌, ◌-◌, ◌<◌, ◌≤◌, ◌++◌, Some, slice_get, length, map, IfOk, OnOk};
 ghost use Rattle.spec_syntax.specs.Rules.{all_nodes};
 ghost use Rattle.struct_model.specs.Structure.{Alt as Alternative};

@@ -1,5 +1,5 @@
 -- What code that lists by these definitions needs at each step.
-use Rattle.std.proofs.Common.{◌≡◌, ℕ, suc, ◌+◌, ◌<◌, List, [], ◌∷◌, ◌++◌, map, take, get_or, length, refl, sym, ap, ◌∙◌, arith}
+use Rattle.std.proofs.Common.{◌≡◌, ℕ, suc, ◌+◌, ◌<◌, List, [], ◌∷◌, ◌++◌, map, take, get_or, length, sym, ap, ◌∙◌, arith}
 use Rattle.std.proofs.lemmas.List.{append_assoc, append-nil, map_more, length-map, length-take-le}
 use Rattle.struct_model.specs.Structure.{Structure, Alt}
 use Rattle.listing_laws.specs.Lister.{alternatives}

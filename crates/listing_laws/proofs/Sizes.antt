@@ -1,7 +1,5 @@
 -- Numbers of labels and of atoms.
-use Rattle.std.proofs.Common.{◌≡◌, ℕ, suc, List, [], ◌∷◌, length, refl, sym, ap, ◌∙◌, inl, inr}
-use Rattle.std.proofs.lemmas.Bool.{cases_lt}
-use Rattle.lists.specs.Ascending.{inserted, ascending}
+use Rattle.std.proofs.Common.{◌≡◌, ℕ, List, length, sym, ap, ◌∙◌}
 use Rattle.struct_model.specs.Structure.{Structure, labels, labels_of_parts, parts_of, size, key}
 use Rattle.lists.proofs.Ascending.{length-ascending}
 
