@@ -1,4 +1,6 @@
 //! Tests of runs: what a script is answered, and how a run ends where a source or a sink fails.
+ghost use Rattle.std.specs.Prelude.{◌≤◌};
+
 use super::*;
 use comb_io::{MemSink, MemSource, SureShelf, SureSink, SureSource};
 use std::process::Abort;
