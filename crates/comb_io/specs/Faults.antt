@@ -7,6 +7,11 @@ use Rattle.comb_io.specs.declared.sinks.SinkFault.TheVariants.{Failed, Memory}
 abbrev pub Rose : ℕ → ℕ → Type 0
 Rose before now = min (before + 1) (2 ^ 64 - 1) ≤ now
 
+-- the count rose or stands at the last value of its counter, and isn't lower than before
+pub record Rises (before now : ℕ) : Type 0 where
+  pub later : before ≤ now
+  pub rose : Rose before now
+
 -- the count of a call on a source: it doesn't fall, it rose where the call failed, and it is as it was where it didn't
 pub record HasCause {A E : Type 0} (before now : ℕ) (result : Result A E) : Type 0 where
   pub later : before ≤ now

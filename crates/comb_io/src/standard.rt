@@ -115,8 +115,52 @@ impl<W: Write> Sink for StdSink<W> {
 mod tests {
     use super::*;
     use crate::sinks::write_all;
-    use std::io::BufWriter;
+    use std::io::{BufWriter, Error, ErrorKind};
     use std::test::Fail;
+
+    /// A reader and writer whose first call fails, and which then gives and takes bytes.
+    #[derive(Drop)]
+    struct FirstFails {
+        calls: u32,
+    }
+
+    impl FirstFails {
+        fn call(&mut self) -> std::io::Result<()> {
+            self.calls = self.calls.saturating_add(1);
+            if self.calls == 1 {
+                return Err(Error::from(ErrorKind::Interrupted));
+            }
+            Ok(())
+        }
+    }
+
+    impl Read for FirstFails {
+        fn read(&mut self, buf: &mut [u8]) -> std::io::Result<usize> {
+            self.call()?;
+            Ok(buf.len())
+        }
+    }
+
+    impl Write for FirstFails {
+        fn write(&mut self, piece: &[u8]) -> std::io::Result<usize> {
+            self.call()?;
+            Ok(piece.len())
+        }
+
+        fn flush(&mut self) -> std::io::Result<()> {
+            Ok(())
+        }
+    }
+
+    #[test]
+    fn tries_nothing_again(rt: HostRuntime) {
+        let mut source = StdSource::new(FirstFails { calls: 0 });
+        assert_eq!(rt; source.read(&mut [0; 2]), Err(Failed));
+        assert_eq!(rt; (source.reader.calls, source.faults), (1, 1));
+        let mut sink = StdSink::new(FirstFails { calls: 0 });
+        assert_eq!(rt; write_all(&mut sink, b"abc"), Err(SinkFault::Failed));
+        assert_eq!(rt; (sink.writer.calls, sink.faults), (1, 1));
+    }
 
     #[test]
     fn reads_a_reader(rt: HostRuntime) -> Result<(), Fail> {
