@@ -1,11 +1,11 @@
 -- The names of rules: each rule is found by its own.
-use Rattle.std.proofs.Common.{◌≡◌, ℕ, zero, suc, ◌+◌, Bool, true, false, not, cond, List, [], ◌∷◌, slice_get, unwrap_or, nat_eq, option_map, Option, Some, IsTrue, refl, sym, ap, ◌∙◌, arith, true≢false}
+use Rattle.std.proofs.Common.{◌≡◌, ℕ, zero, suc, ◌+◌, ◌≤◌, Bool, true, false, not, cond, List, [], ◌∷◌, length, slice_get, unwrap_or, nat_eq, option_map, Option, Some, IsTrue, refl, sym, ap, ◌∙◌, arith, true≢false}
 use Rattle.std.specs.List.{list_any, position_from}
 use Rattle.std.specs.Cmp.Lexicographic.{same_text}
 use Rattle.std.proofs.lemmas.Bool.{and_parts, and_from, eq-eqb, not-true}
 use Rattle.lists.specs.Enumeration.{IsIn}
 use Rattle.lists.proofs.Tests.{any_at}
-use Rattle.lists.proofs.Positions.{found_some}
+use Rattle.lists.proofs.Positions.{found_at, found_some, slice_some}
 use Rattle.spec_syntax.specs.Expression.{Expression}
 use Rattle.spec_syntax.specs.Rules.{Rules, is_same_name, symbol, rule_name, are_names_distinct, is_spec}
 use Rattle.spec_syntax.proofs.RulesLemmas.{distinct-from_spec}
@@ -61,3 +61,19 @@ name_found rules i number rule same at =
   where
     next : (j k : ℕ) → j + 1 ≡ k → suc j ≡ k
     next j k h = omega (arith, h)
+
+-- a rule that is found by its name has the name
+pub name_own : (rules : Rules) (name : List ℕ) (number : ℕ) → symbol rules name ≡ Some number → rule_name rules number ≡ name
+name_own rules name number found =
+    let rule = found_at (λ (rule : List ℕ × Expression). is_same_name rule.0 name) rules 1 number found in
+    name_found rules rule.i number rule.x (omega (arith, rule.number)) rule.at ∙ same_text rule.x.0 name (sym rule.passes)
+
+-- the rule of each number is found by its name
+pub number_own : (rules : Rules) (number : ℕ) → IsTrue (is_spec rules) → 1 ≤ number → number ≤ length rules → symbol rules (rule_name rules number) ≡ Some number
+number_own rules zero spec low high = absurd (omega arith)
+number_own rules (suc i) spec low high =
+    let rule = slice_some rules i (omega arith) in
+    ap (symbol rules) (name_found rules i (suc i) rule.0 (next i) rule.1) ∙ symbol_own rules i rule.0 spec rule.1
+  where
+    next : (n : ℕ) → n + 1 ≡ suc n
+    next n = omega arith

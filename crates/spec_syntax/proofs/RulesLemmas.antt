@@ -6,6 +6,7 @@ use Rattle.std.specs.Option.{option_map}
 use Rattle.std.specs.Cmp.Lexicographic.{same_text}
 use Rattle.lists.specs.Enumeration.{IsIn}
 use Rattle.lists.proofs.Places.{in_of_get}
+use Rattle.lists.proofs.Positions.{found_at, found_within}
 use Rattle.spec_syntax.specs.Expression.{Expression, preorder, nodes}
 use Rattle.spec_syntax.specs.Rules.{Rules, is_same_name, symbol, right_side, all_nodes, rule_name, are_names_distinct, is_spec}
 
@@ -43,19 +44,10 @@ pub lookup-from_spec : (rules before : Rules) (name : List ℕ) (right : Express
 lookup-from_spec rules before name right after split facts =
     lookup-distinct before (name, right) after (ap are_names_distinct (sym split) ∙ distinct-from_spec rules facts)
 
-found-within : (test : List ℕ × Expression → Bool) (rules : Rules) (i n : ℕ) → position_from test i rules ≡ Some n → (i ≤ n) × (n < i + length rules)
-found-within test [] i n found = cc
-found-within test (rule ∷ rules) i n found = by (test rule) (found-within test rules (i + 1) n) found
-  where
-    by : (b : Bool) → (position_from test (i + 1) rules ≡ Some n → (i + 1 ≤ n) × (n < i + 1 + length rules))
-        → cond b (Some i) (position_from test (i + 1) rules) ≡ Some n → (i ≤ n) × (n < i + suc (length rules))
-    by true later e = let same : i ≡ n = cc in (omega arith, omega arith)
-    by false later e = let rest : (i + 1 ≤ n) × (n < i + 1 + length rules) = later e in (omega arith, omega arith)
-
 -- the number of a rule that has the name is the number of a rule
 pub symbol-within : (rules : Rules) (name : List ℕ) (n : ℕ) → symbol rules name ≡ Some n → (1 ≤ n) × (n ≤ length rules)
 symbol-within rules name n found =
-    let within : (1 ≤ n) × (n < 1 + length rules) = found-within (λ rule. is_same_name rule.0 name) rules 1 n found in (omega arith, omega arith)
+    let within : (1 ≤ n) × (n < 1 + length rules) = found_within (λ (rule : List ℕ × Expression). is_same_name rule.0 name) rules 1 n found in (omega arith, omega arith)
 
 nodes-slice_get : (rules : Rules) (i : ℕ) (rule : List ℕ × Expression) → slice_get rules i ≡ Some rule → nodes rule.1 ≤ length (all_nodes rules)
 nodes-slice_get [] i rule at = cc
@@ -81,27 +73,12 @@ nodes-right_side_le rules (suc i) right facts at = by (slice_get rules i) refl a
         let P : Expression → Type 0 = λ right. nodes right ≤ 128 in
         subst P same (omega (arith, nodes-slice_get rules i rule e, all_nodes-from_spec rules facts))
 
-pub found_rule : (test : List ℕ × Expression → Bool) (rules : Rules) (first n : ℕ) → position_from test first rules ≡ Some n
-    → (i : ℕ) × (rule : List ℕ × Expression) × (first + i ≡ n) × (slice_get rules i ≡ Some rule) × (test rule ≡ true)
-found_rule test [] first n found = absurd (cc)
-found_rule test (rule ∷ rules) first n found = by (test rule) refl found (λ later. found_rule test rules (first + 1) n later)
-  where
-    by : (b : Bool) → test rule ≡ b → cond b (Some first) (position_from test (first + 1) rules) ≡ Some n
-        → (position_from test (first + 1) rules ≡ Some n → (i : ℕ) × (other : List ℕ × Expression) × (first + 1 + i ≡ n) × (slice_get rules i ≡ Some other) × (test other ≡ true))
-        → (i : ℕ) × (other : List ℕ × Expression) × (first + i ≡ n) × (slice_get (rule ∷ rules) i ≡ Some other) × (test other ≡ true)
-    by true told at others = let same : first ≡ n = cc in (0, rule, omega arith, refl, told)
-    by false told at others = let rest = others at in (suc rest.0, rest.1, shift rest.0 rest.2, rest.3, rest.4)
-      where
-        shift : (i : ℕ) → first + 1 + i ≡ n → first + suc i ≡ n
-        shift i same = omega arith
-
 -- a name with a rule has the right side of the rule
 pub symbol_right : (rules : Rules) (name : List ℕ) (sym : ℕ) → symbol rules name ≡ Some sym → (right : Expression) × (right_side rules sym ≡ Some right)
 symbol_right rules name number found =
-    let rule : (i : ℕ) × (other : List ℕ × Expression) × (1 + i ≡ number) × (slice_get rules i ≡ Some other) × (is_same_name other.0 name ≡ true) =
-    found_rule (λ rule. is_same_name rule.0 name) rules 1 number found in
-    let next : suc rule.0 ≡ number = after rule.0 rule.2 in
-    (rule.1.1, subst (λ (j : ℕ). right_side rules j ≡ Some rule.1.1) next (ap (option_map (λ (other : List ℕ × Expression). other.1)) rule.3))
+    let rule = found_at (λ (rule : List ℕ × Expression). is_same_name rule.0 name) rules 1 number found in
+    let next : suc rule.i ≡ number = after rule.i rule.number in
+    (rule.x.1, subst (λ (j : ℕ). right_side rules j ≡ Some rule.x.1) next (ap (option_map (λ (other : List ℕ × Expression). other.1)) rule.at))
   where
     after : (i : ℕ) → 1 + i ≡ number → suc i ≡ number
     after i same = omega arith
@@ -109,8 +86,8 @@ symbol_right rules name number found =
 -- a rule that is found by its name has the name
 pub own_name : (rules : Rules) (name : List ℕ) (r : ℕ) → symbol rules name ≡ Some r → (right : Expression) × IsIn (name, right) rules
 own_name rules name r numbered =
-    let found = found_rule (λ rule. is_same_name rule.0 name) rules 1 r numbered in
-    (found.1.1, subst (λ (own : List ℕ). IsIn (own, found.1.1) rules) (same_text found.1.0 name (sym found.4)) (in_of_get rules found.0 found.1 found.3))
+    let found = found_at (λ (rule : List ℕ × Expression). is_same_name rule.0 name) rules 1 r numbered in
+    (found.x.1, subst (λ (own : List ℕ). IsIn (own, found.x.1) rules) (same_text found.x.0 name (sym found.passes)) (in_of_get rules found.i found.x found.at))
 
 -- a number of a rule has a right side
 pub some_right : (rules : Rules) (sym : ℕ) → 1 ≤ sym → sym ≤ length rules → (right : Expression) × (right_side rules sym ≡ Some right)

@@ -11,7 +11,7 @@ use Rattle.spec_syntax.specs.Expression as expr
 use Rattle.spec_syntax.specs.Expression.{Expression, Expressions, no_expressions, more_expressions}
 use Rattle.spec_syntax.specs.Rules.{Rules, symbol, right_side}
 use Rattle.spec_syntax.specs.Grammar.{Grammar}
-use Rattle.spec_syntax.proofs.RulesLemmas.{symbol-within}
+use Rattle.spec_syntax.proofs.RulesLemmas.{symbol-within, some_right}
 use Rattle.struct_model.specs.Structure.{Structure, size}
 use Rattle.well_founded.specs.WellFounded.{may_hold_cycles, HoldsCycle, OfNone}
 use Rattle.well_founded.specs.Sizes.{IsOf, IsProductive, IsLeast, no_least}
@@ -221,14 +221,6 @@ next_of_name rules table name (suc i) right numbered sided =
     one_less : (k : ℕ) → suc k - 1 ≡ k
     one_less k = omega arith
 
--- each number of a rule has a right side
-pub right_of : (rules : Rules) (n : ℕ) → 1 ≤ n → n ≤ length rules → (right : Expression) × (right_side rules n ≡ Some right)
-right_of rules zero low high = absurd (omega arith)
-right_of [] (suc i) low high = absurd (omega arith)
-right_of (rule ∷ rules) (suc i) low high =
-    let at : (List ℕ × Expression) = get_or (rule ∷ rules) i rule in
-    (at.1, ap (option_map (λ (r : List ℕ × Expression). r.1)) (slice_get-get_or (rule ∷ rules) i rule (omega arith)))
-
 -- a name with a size has a rule
 ruled : (rules : Rules) (table : List (Option ℕ)) (name : List ℕ) (m : ℕ) → size_of_name rules table name ≡ Some m → (n : ℕ) × (right : Expression) × (symbol rules name ≡ Some n) × (right_side rules n ≡ Some right)
 ruled rules table name m h = by (symbol rules name) refl h
@@ -238,7 +230,7 @@ ruled rules table name m h = by (symbol rules name) refl h
     by None e h = cc
     by (Some n) e h =
         let within = symbol-within rules name n e in
-        let side = right_of rules n within.0 within.1 in
+        let side = some_right rules n within.0 within.1 in
         (n, side.0, e, side.1)
 
 -- the universe allows the Cycles in the rules

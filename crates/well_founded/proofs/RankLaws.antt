@@ -23,7 +23,7 @@ use Rattle.graphs.proofs.Reached.{step_leads, leads_trans}
 use Rattle.graphs.proofs.Counts.{count_falls, count_within, counts_exist}
 use Rattle.well_founded.proofs.SameSizeLaws.{fills}
 use Rattle.well_founded.proofs.SameSizeSteps.{IsStep, from_step, step_at}
-use Rattle.spec_syntax.proofs.RulesLemmas.{found_rule, own_name}
+use Rattle.spec_syntax.proofs.RulesLemmas.{own_name}
 use Rattle.well_founded.proofs.EndlessLaws.{node_full, leads_holds}
 use Rattle.well_founded.proofs.LeastRounds.{sizes_exist}
 
