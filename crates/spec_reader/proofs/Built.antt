@@ -9,18 +9,17 @@ use Rattle.spec_syntax.specs.declared.statement.Universe.TheVariants as universe
 use Rattle.spec_syntax.specs.declared.statement.RulesRef.TheVariants as rules_ref
 use Rattle.spec_syntax.specs.declared.statement.ClassRef.TheVariants as class_ref
 use Rattle.spec_syntax.specs.declared.statement.Job.TheVariants as job
-use Rattle.spec_syntax.specs.declared.statement.Form.TheVariants as form
 use Rattle.spec_syntax.specs.declared.statement.Statement.{Statement}
 use Rattle.spec_reader.specs.declared.refusal.Fault.{Fault}
 use Rattle.spec_reader.specs.declared.token.Sign.TheVariants as sign
 use Rattle.spec_reader.specs.declared.token.Keyword.TheVariants as word
 use Rattle.spec_reader.specs.declared.table.Comparison.TheVariants as compare
-use Rattle.spec_reader.specs.declared.draft.Command.TheVariants as command
+use Rattle.spec_reader.specs.declared.table.Command.{Command}
 use Rattle.spec_reader.specs.declared.draft.Draft.{Draft}
 use Rattle.spec_reader.specs.Tokens.{value}
 use Rattle.spec_reader.specs.Grammar as tree
-use Rattle.spec_reader.specs.Grammar.{BoundTree, ExprTree, ExprTrees, RuleTree, RulesTree, SymbolTree, UniverseTree, ClassTree, StatementTree, container_end, expr, more_exprs, rule, more_rules, rules, symbol, class_end, class, statement}
-use Rattle.spec_reader.specs.Meaning.{name_of, right_of, rule_of, rules_of, symbol_of, universe_of, meaning}
+use Rattle.spec_reader.specs.Grammar.{BoundTree, ExprTree, ExprTrees, RuleTree, RulesTree, SymbolTree, UniverseTree, ClassTree, EndTree, StatementTree, end_sign, container_end, expr, more_exprs, rule, more_rules, rules, symbol, class_end, class, statement}
+use Rattle.spec_reader.specs.Meaning.{name_of, right_of, rule_of, rules_of, symbol_of, universe_of, asks, is_quiet, meaning}
 use Rattle.spec_reader.specs.Drafts.{empty}
 use Rattle.spec_reader.specs.Machine as machine
 use Rattle.spec_reader.specs.Reading.{names_in}
@@ -86,21 +85,23 @@ names-class c =
     ∙ ap (λ rest. names_in (rules c.rules) ++ rest) (names-class_end c.universe)
     ∙ append-nil (names_in (rules c.rules)) ∙ names-all-rules c.rules
 
-names-statement : (c : ClassTree) (digits : List ℕ) → names_in (statement (tree.Asks (tree.AllStructs c digits))) ≡ map name_of (c.rules.first ∷ c.rules.others)
-names-statement c digits =
-    names_in-append (tree.form (tree.AllStructs c digits)) (tree.sign sign.Semicolon ∷ []) ∙ append-nil (names_in (tree.form (tree.AllStructs c digits)))
+names-statement : (k : Command) (c : ClassTree) (digits : List ℕ) (e : EndTree)
+    → names_in (statement (tree.Asks (tree.About k c digits) e)) ≡ map name_of (c.rules.first ∷ c.rules.others)
+names-statement k c digits e =
+    names_in-append (tree.form (tree.About k c digits)) (tree.sign (end_sign e) ∷ []) ∙ append-nil (names_in (tree.form (tree.About k c digits)))
     ∙ names_in-append (class c) (tree.sign sign.Comma ∷ tree.word word.Size ∷ tree.sign sign.Equals ∷ tree.size digits ∷ tree.sign sign.CloseParen ∷ [])
     ∙ append-nil (names_in (class c)) ∙ names-class c
 
-abbrev listed : List ℕ → Universe → List Expression → ℕ → Draft
-listed symbol named rights size = record { command = Some command.AllStructs; symbol = symbol; universe = named; rights = rights; pending = []; size = size }
+abbrev listed : Command → List ℕ → Universe → List Expression → Draft
+listed k symbol named rights =
+    record { command = Some k; symbol = symbol; universe = named; rights = rights; pending = []; size = 0; quiet = false }
 
-rules-built : (rs : List RuleTree) (symbol : List ℕ) (named : Universe) (rights : List Expression) (size : ℕ)
-    → effect_of_rules rs (listed symbol named rights size) ≡ listed symbol named (reverse (map right_of rs) ++ rights) size
-rules-built [] symbol named rights size = refl
-rules-built (r ∷ rs) symbol named rights size =
-    rules-built rs symbol named (right_of r ∷ rights) size
-    ∙ ap (λ those. listed symbol named those size)
+rules-built : (rs : List RuleTree) (k : Command) (symbol : List ℕ) (named : Universe) (rights : List Expression)
+    → effect_of_rules rs (listed k symbol named rights) ≡ listed k symbol named (reverse (map right_of rs) ++ rights)
+rules-built [] k symbol named rights = refl
+rules-built (r ∷ rs) k symbol named rights =
+    rules-built rs k symbol named (right_of r ∷ rights)
+    ∙ ap (λ those. listed k symbol named those)
     (sym (append_assoc (reverse (map right_of rs)) (right_of r ∷ []) rights) ∙ ap (λ those. those ++ rights) (sym (reverse-append (right_of r ∷ []) (map right_of rs))))
 
 zip-map : (rs : List RuleTree) → zip (map name_of rs) (map right_of rs) ≡ map rule_of rs
@@ -115,22 +116,23 @@ rules-are names rs same =
     (λ k. zip ((reverse-reverse names ∙ same) k) (rights k)) ∙ zip-map (rs.first ∷ rs.others)
 
 -- where no universe is written it is unlabelled
-class_end-built : (end : Option UniverseTree) (symbol : List ℕ) (rights : List Expression) (size : ℕ)
-    → effect_of_class_end end (listed symbol universe.Unlabelled rights size) ≡ listed symbol (universe_of end) rights size
-class_end-built None symbol rights size = refl
-class_end-built (Some end) symbol rights size = refl
+class_end-built : (end : Option UniverseTree) (k : Command) (symbol : List ℕ) (rights : List Expression)
+    → effect_of_class_end end (listed k symbol universe.Unlabelled rights) ≡ listed k symbol (universe_of end) rights
+class_end-built None k symbol rights = refl
+class_end-built (Some end) k symbol rights = refl
 
 -- what is built of a statement is what it says
 pub built-means : (t : StatementTree) (end : ℕ)
     → machine.finished [] end (record { expected = []; seen = seen_of (statement t); draft = effect_of_statement t empty }) ≡ Ok (meaning t)
-built-means tree.Bare end = refl
-built-means (tree.Asks (tree.AllStructs c digits)) end =
-    let names = names_in (statement (tree.Asks (tree.AllStructs c digits))) in
+built-means (tree.Bare e) end = refl
+built-means (tree.Asks (tree.About k c digits) e) end =
+    let t = tree.Asks (tree.About k c digits) e in
     let all = reverse (map right_of c.rules.others) ++ right_of c.rules.first ∷ [] in
-    let drafts : effect_of_statement (tree.Asks (tree.AllStructs c digits)) empty ≡ listed (symbol_of c.symbol) (universe_of c.universe) all (value digits) =
-    ap {A = Draft} {B = Draft} (λ d. record (effect_of_class_end c.universe d) { size = value digits })
-    (rules-built c.rules.others (symbol_of c.symbol) universe.Unlabelled (right_of c.rules.first ∷ []) 0)
-    ∙ ap {A = Draft} {B = Draft} (λ d. record d { size = value digits }) (class_end-built c.universe (symbol_of c.symbol) all 0) in
-    ap {A = Draft} (λ d. machine.finished [] end (record { expected = []; seen = seen_of (statement (tree.Asks (tree.AllStructs c digits))); draft = d })) drafts
-    ∙ ap {A = Rules} {B = Result Statement Fault} (λ rs. Ok (record { form = form.List (job.Grammar (class_ref.Written (symbol_of c.symbol) (rules_ref.Written rs) (universe_of c.universe)) (value digits)); quiet = false }))
-    (rules-are names c.rules (names-statement c digits))
+    let drafts : effect_of_statement t empty ≡ record (listed k (symbol_of c.symbol) (universe_of c.universe) all) { size = value digits; quiet = is_quiet e } =
+    ap {A = Draft} {B = Draft} (λ d. record (effect_of_class_end c.universe d) { size = value digits; quiet = is_quiet e })
+    (rules-built c.rules.others k (symbol_of c.symbol) universe.Unlabelled (right_of c.rules.first ∷ []))
+    ∙ ap {A = Draft} {B = Draft} (λ d. record d { size = value digits; quiet = is_quiet e }) (class_end-built c.universe k (symbol_of c.symbol) all) in
+    ap {A = Draft} (λ d. machine.finished [] end (record { expected = []; seen = seen_of (statement t); draft = d })) drafts
+    ∙ ap {A = Rules} {B = Result Statement Fault}
+    (λ rs. Ok (record { form = asks k (job.Grammar (class_ref.Written (symbol_of c.symbol) (rules_ref.Written rs) (universe_of c.universe)) (value digits)); quiet = is_quiet e }))
+    (rules-are (names_in (statement t)) c.rules (names-statement k c digits e))

@@ -10,8 +10,8 @@ use Rattle.spec_reader.specs.declared.token.Sign.{Sign}
 use Rattle.spec_reader.specs.declared.token.Keyword.{Keyword}
 use Rattle.spec_reader.specs.declared.refusal.Fault.{Fault}
 use Rattle.spec_reader.specs.declared.table.Item.{Item}
-use Rattle.spec_reader.specs.declared.draft.Command.{Command}
-use Rattle.spec_reader.specs.declared.draft.Command.TheVariants as command
+use Rattle.spec_reader.specs.declared.table.Command.{Command}
+use Rattle.spec_reader.specs.declared.table.Command.TheVariants as command
 use Rattle.spec_reader.specs.declared.read.Reader.{Reader}
 use Rattle.spec_reader.specs.Tokens.{Token, Name, Reserved, Placed, Front, is_string_byte, keyword_of, string_of, sign_or_stray, sign_at, front_of, is_spelled, tokens_from, tokens}
 use Rattle.spec_reader.specs.Limits.{Reason, Passes, Repeats}
@@ -94,11 +94,12 @@ goes-sound r next t goes spelled sound = on-items r.expected r next t refl goes 
 keeps-form : (c : Option Command) (r : Reader) → is_sound r ≡ true → FormKeeps (form_of c r)
 keeps-form None r sound = tt
 keeps-form (Some command.AllStructs) r sound = sound-is_spec r sound
+keeps-form (Some command.Count) r sound = sound-is_spec r sound
 
 ends-keeping : (items : List Item) (r : Reader) (end : ℕ) (read : Statement) → is_sound r ≡ true → finished items end r ≡ Ok read → FormKeeps read.form
 ends-keeping (i ∷ is) r end read sound ends = cc
 ends-keeping [] r end read sound ends =
-    let same : record { form = form_of r.draft.command r; quiet = false } ≡ read = cc in
+    let same : record { form = form_of r.draft.command r; quiet = r.draft.quiet } ≡ read = cc in
     subst (λ (s : Statement). FormKeeps s.form) same (keeps-form r.draft.command r sound)
 
 goes-on-keeping : (advanced : Advance) (at : ℕ) (more : Reader → Result Statement Fault) (read : Statement) → go_on advanced at more ≡ Ok read → (next : Reader) × (advanced ≡ Goes next) × (more next ≡ Ok read)

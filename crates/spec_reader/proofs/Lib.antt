@@ -1,4 +1,6 @@
 pub mod CutLemmas
+pub mod PieceLemmas
+pub mod PlaceLemmas
 pub mod TokenLemmas
 pub mod NumberLemmas
 pub mod DraftLemmas

@@ -15,27 +15,29 @@ use Rattle.spec_reader.specs.declared.table.Head.{Head}
 use Rattle.spec_reader.specs.declared.table.Head.TheVariants as head
 use Rattle.spec_reader.specs.declared.table.Former.{Former}
 use Rattle.spec_reader.specs.declared.table.Former.TheVariants as former
+use Rattle.spec_reader.specs.declared.table.Command.{Command}
+use Rattle.spec_reader.specs.declared.table.Command.TheVariants as command
 use Rattle.spec_reader.specs.declared.table.Comparison.{Comparison}
 use Rattle.spec_reader.specs.declared.table.Comparison.TheVariants as compare
 use Rattle.spec_reader.specs.declared.table.Role.TheVariants.{Plain}
 use Rattle.spec_reader.specs.declared.draft.BoundPart.TheVariants as part
-use Rattle.spec_reader.specs.declared.draft.Command.TheVariants as command
 use Rattle.spec_reader.specs.declared.draft.Compound.{Compound}
 use Rattle.spec_reader.specs.declared.draft.Compound.TheVariants.{Several, Container}
 use Rattle.spec_reader.specs.declared.draft.Draft.{Draft}
 use Rattle.spec_reader.specs.Tokens.{Token, Mark, Reserved, Name, Number, text_of, value}
 use Rattle.spec_reader.specs.Grammar as tree
-use Rattle.spec_reader.specs.Grammar.{Marked, BoundTree, ExprTree, ExprTrees, AtomTree, RuleTree, RulesTree, SymbolTree, UniverseTree, ClassTree, FormTree, StatementTree, comparison, bound, container_end, expr, more_exprs, right_of_z, rule, more_rules, rules, symbol, class_end, class, form, statement}
-use Rattle.spec_reader.specs.Meaning.{turned, expression_of, expressions_of_all, right_of, symbol_of, universe_of}
-use Rattle.spec_reader.specs.Table.{is_mark, is_reserved, is_name, is_number, head_of, comparison_of, arguments, only_if, more_or_end, step, role_of}
+use Rattle.spec_reader.specs.Grammar.{Marked, BoundTree, ExprTree, ExprTrees, AtomTree, RuleTree, RulesTree, SymbolTree, UniverseTree, ClassTree, FormTree, EndTree, StatementTree, command_word, end_sign, comparison, bound, container_end, expr, more_exprs, right_of_z, rule, more_rules, rules, symbol, class_end, class, form, statement}
+use Rattle.spec_reader.specs.Meaning.{turned, expression_of, expressions_of_all, right_of, symbol_of, universe_of, is_quiet}
+use Rattle.spec_reader.specs.Table.{is_mark, is_reserved, is_name, is_number, is_end, command_of, head_of, comparison_of, arguments, behind_command, only_if, more_or_end, step, role_of}
 use Rattle.spec_reader.specs.Table as table
 use Rattle.spec_reader.specs.Drafts.{put, close, unbounded, rebind}
-use Rattle.spec_reader.proofs.TokenTests.{mark-is, reserved-is, name-is, digits_of, number-is, mark-same, reserved-same, Begins, head-begins, Compares, comparison-is, Names, universe-is}
+use Rattle.spec_reader.proofs.TokenTests.{mark-is, reserved-is, name-is, digits_of, number-is, mark-same, reserved-same, end_of, end-is, Commands, command-is, Begins, head-begins, Compares, comparison-is, Names, universe-is}
 use Rattle.spec_reader.proofs.Walks.{Walks, walk-append, walk-under}
 
 -- what an item stands for
 abbrev pub Tree : Item → Type 0
 Tree item.Statement = StatementTree
+Tree item.End = EndTree
 Tree item.Class = ClassTree
 Tree item.Symbol = SymbolTree
 Tree item.ClassEnd = Option UniverseTree
@@ -59,6 +61,7 @@ Tree (item.Reserved k) = Unit {0}
 -- how it is written
 abbrev pub prints : (i : Item) → Tree i → List Marked
 prints item.Statement t = statement t
+prints item.End e = tree.sign (end_sign e) ∷ []
 prints item.Class t = class t
 prints item.Symbol t = symbol t
 prints item.ClassEnd t = class_end t
@@ -81,7 +84,8 @@ prints (item.Reserved k) t = tree.word k ∷ []
 
 -- one of the things that an item stands for
 abbrev pub some : (i : Item) → Tree i
-some item.Statement = tree.Bare
+some item.Statement = tree.Bare tree.BySemicolon
+some item.End = tree.BySemicolon
 some item.Class = record { symbol = tree.SymbolZ; rules = record { first = tree.RuleOfZ tree.ByZ; others = [] }; universe = None }
 some item.Symbol = tree.SymbolZ
 some item.ClassEnd = None
@@ -126,12 +130,19 @@ effect_of_class_end (Some u) d = record d { universe = universe_of (Some u) }
 abbrev pub effect_of_class : ClassTree → Draft → Draft
 effect_of_class c d = effect_of_class_end c.universe (effect_of_rules c.rules.others (put (right_of c.rules.first) (record d { symbol = symbol_of c.symbol })))
 
+abbrev pub effect_of_form : FormTree → Draft → Draft
+effect_of_form (tree.About k c digits) d = record (effect_of_class c (record d { command = Some k })) { size = value digits }
+
+abbrev pub effect_of_end : EndTree → Draft → Draft
+effect_of_end e d = record d { quiet = is_quiet e }
+
 abbrev pub effect_of_statement : StatementTree → Draft → Draft
-effect_of_statement tree.Bare d = d
-effect_of_statement (tree.Asks (tree.AllStructs c digits)) d = record (effect_of_class c (record d { command = Some command.AllStructs })) { size = value digits }
+effect_of_statement (tree.Bare e) d = effect_of_end e d
+effect_of_statement (tree.Asks f e) d = effect_of_end e (effect_of_form f d)
 
 abbrev pub effect : (i : Item) → Tree i → Draft → Draft
 effect item.Statement t d = effect_of_statement t d
+effect item.End e d = effect_of_end e d
 effect item.Class t d = effect_of_class t d
 effect item.Symbol t d = record d { symbol = symbol_of t }
 effect item.ClassEnd t d = effect_of_class_end t d
@@ -339,31 +350,38 @@ reads-class c d = (
       ),
 )
 
-reads-form : (f : FormTree) (d : Draft) → Walks (form f) (item.Statement ∷ []) d (item.Mark sign.Semicolon ∷ []) (effect_of_statement (tree.Asks f) d)
-reads-form (tree.AllStructs c digits) d = (
-  item.Mark sign.OpenParen ∷ item.Class ∷ item.Mark sign.Comma ∷ item.Reserved word.Size ∷ item.Mark sign.Equals ∷ item.Size
-      ∷ item.Mark sign.CloseParen ∷ item.Mark sign.Semicolon ∷ [],
+-- what stands behind the word of a command
+reads-behind : (c : ClassTree) (digits : List ℕ) (d : Draft)
+    → Walks (tree.sign sign.OpenParen ∷ class c ++ tree.sign sign.Comma ∷ tree.word word.Size ∷ tree.sign sign.Equals ∷ tree.size digits ∷ tree.sign sign.CloseParen ∷ [])
+    behind_command d (item.End ∷ []) (record (effect_of_class c d) { size = value digits })
+reads-behind c digits d = (
+  [],
   refl,
   refl,
-  (
-    [],
-    refl,
-    refl,
-    over (class c) (tree.sign sign.Comma ∷ tree.word word.Size ∷ tree.sign sign.Equals ∷ tree.size digits ∷ tree.sign sign.CloseParen ∷ [])
-        item.Class (item.Mark sign.Comma ∷ item.Reserved word.Size ∷ item.Mark sign.Equals ∷ item.Size ∷ item.Mark sign.CloseParen ∷ item.Mark sign.Semicolon ∷ [])
-        (item.Mark sign.Semicolon ∷ []) _ _ _
-        (reads-class c _) ([], refl, refl, ([], refl, refl, ([], refl, refl, ([], refl, refl, ([], refl, refl, (refl, refl)))))),
-  ),
+  over (class c) (tree.sign sign.Comma ∷ tree.word word.Size ∷ tree.sign sign.Equals ∷ tree.size digits ∷ tree.sign sign.CloseParen ∷ [])
+      item.Class (item.Mark sign.Comma ∷ item.Reserved word.Size ∷ item.Mark sign.Equals ∷ item.Size ∷ item.Mark sign.CloseParen ∷ item.End ∷ [])
+      (item.End ∷ []) _ _ _
+      (reads-class c d) ([], refl, refl, ([], refl, refl, ([], refl, refl, ([], refl, refl, ([], refl, refl, (refl, refl)))))),
 )
 
+reads-form : (f : FormTree) (d : Draft) → Walks (form f) (item.Statement ∷ []) d (item.End ∷ []) (effect_of_form f d)
+reads-form (tree.About command.AllStructs c digits) d = (behind_command, refl, refl, reads-behind c digits (record d { command = Some command.AllStructs }))
+reads-form (tree.About command.Count c digits) d = (behind_command, refl, refl, reads-behind c digits (record d { command = Some command.Count }))
+
+reads-end : (e : EndTree) (d : Draft) → Walks (tree.sign (end_sign e) ∷ []) (item.End ∷ []) d [] (effect_of_end e d)
+reads-end tree.BySemicolon d = ([], refl, refl, (refl, refl))
+reads-end tree.ByColon d = ([], refl, refl, (refl, refl))
+
 pub reads-statement : (t : StatementTree) (d : Draft) → Walks (statement t) (item.Statement ∷ []) d [] (effect_of_statement t d)
-reads-statement tree.Bare d = ([], refl, refl, (refl, refl))
-reads-statement (tree.Asks f) d =
-    walk-append (form f) (tree.sign sign.Semicolon ∷ []) (item.Statement ∷ []) (item.Mark sign.Semicolon ∷ []) [] _ _ _ (reads-form f d) ([], refl, refl, (refl, refl))
+reads-statement (tree.Bare tree.BySemicolon) d = ([], refl, refl, (refl, refl))
+reads-statement (tree.Bare tree.ByColon) d = ([], refl, refl, (refl, refl))
+reads-statement (tree.Asks f e) d =
+    walk-append (form f) (tree.sign (end_sign e) ∷ []) (item.Statement ∷ []) (item.End ∷ []) [] _ _ _ (reads-form f d) (reads-end e (effect_of_form f d))
 
 -- the table walks over what an item stands for, and builds it
 pub reads : (i : Item) (t : Tree i) (d : Draft) → Walks (prints i t) (i ∷ []) d [] (effect i t d)
 reads item.Statement t d = reads-statement t d
+reads item.End e d = reads-end e d
 reads item.Class t d = reads-class t d
 reads item.Symbol t d = reads-symbol t d
 reads item.ClassEnd t d = reads-class_end t d
@@ -467,11 +485,23 @@ builds-more : (i : Item) (close : Sign) (row : List Item) (t : Token) (f : Trees
 builds-more i close row t f end is ends parts = builds-either i (is_mark sign.Comma t) (is_mark close t) row [] t (Mark sign.Comma) (Mark close)
     f (λ none. end) (mark-is sign.Comma t) (mark-is close t) is (λ none. ends) parts
 
+builds-command : (found : Option Command) (t : Token) → Commands found t → (parts : TreesOf (only_if (is_some found) behind_command))
+    → BuiltOf item.Statement t (prints_of (only_if (is_some found) behind_command) parts)
+builds-command None t commands parts = absurd parts
+builds-command (Some k) t commands parts =
+    with-token item.Statement t (Reserved (command_word k)) _ (tree.Asks (tree.About k parts.1.0 parts.1.1.1.1.1.0) parts.1.1.1.1.1.1.1.0) commands
+    (ap (λ rest. tree.word (command_word k) ∷ tree.sign sign.OpenParen ∷ rest) (append_assoc (class parts.1.0) _ (tree.sign (end_sign parts.1.1.1.1.1.1.1.0) ∷ [])))
+
+builds-statement : (ends : Bool) (t : Token) → (ends ≡ true → t ≡ Mark (end_sign (end_of t)))
+    → (parts : TreesOf (if ends then Some [] else only_if (is_some (command_of t)) behind_command))
+    → BuiltOf item.Statement t (prints_of (if ends then Some [] else only_if (is_some (command_of t)) behind_command) parts)
+builds-statement true t same parts = with-token item.Statement t (Mark (end_sign (end_of t))) [] (tree.Bare (end_of t)) (same refl) refl
+builds-statement false t same parts = builds-command (command_of t) t (command-is t) parts
+
 -- each row of the table is of a production
 pub builds : (i : Item) (t : Token) (parts : TreesOf (step i t)) → BuiltOf i t (prints_of (step i t) parts)
-builds item.Statement t parts = builds-either item.Statement (is_mark sign.Semicolon t) (is_reserved word.AllStructs t) _ _ t (Mark sign.Semicolon) (Reserved word.AllStructs)
-    (λ none. tree.Bare) (λ those. tree.Asks (tree.AllStructs those.1.0 those.1.1.1.1.1.0)) (mark-is sign.Semicolon t) (reserved-is word.AllStructs t) (λ none. refl)
-    (λ those. ap (λ rest. tree.word word.AllStructs ∷ tree.sign sign.OpenParen ∷ rest) (append_assoc (class those.1.0) _ (tree.sign sign.Semicolon ∷ []))) parts
+builds item.Statement t parts = builds-statement (is_end t) t (end-is t) parts
+builds item.End t parts = builds-only item.End (is_end t) _ t (Mark (end_sign (end_of t))) (λ none. end_of t) (end-is t) (λ none. refl) parts
 builds item.Class t parts = builds-only item.Class (is_mark sign.OpenBracket t) _ t (Mark sign.OpenBracket)
     (λ those. record { symbol = those.0; rules = those.1.1.0; universe = those.1.1.1.0 }) (mark-is sign.OpenBracket t) (λ those. simp append-nil) parts
 builds item.Symbol t parts = builds-either item.Symbol (is_name t) (is_reserved word.Z t) _ _ t (Name (text_of t)) (Reserved word.Z)

@@ -6,6 +6,7 @@ use Rattle.std.proofs.lemmas.List.Folds.{list_all-append}
 use Rattle.spec_syntax.specs.Expression.{Expression, preorder, preorder_of_all, is_sequence_at_most}
 use Rattle.spec_syntax.specs.Rules.{all_nodes, are_sequences}
 use Rattle.spec_syntax.specs.declared.statement.Statement.{Statement}
+use Rattle.spec_reader.specs.declared.table.Command.TheVariants as command
 use Rattle.spec_reader.specs.Grammar as tree
 use Rattle.spec_reader.specs.Grammar.{ExprTree, ExprTrees, RuleTree, StatementTree}
 use Rattle.spec_reader.specs.Meaning.{expression_of, expressions_of_all, rule_of, right_of, meaning}
@@ -37,8 +38,9 @@ rules-sequences [] = refl
 rules-sequences (r ∷ rs) = both (preorder (right_of r)) (all_nodes (map rule_of rs)) (rule-sequences r) (rules-sequences rs)
 
 meaning-sequences : (statement : StatementTree) → FormHasSequences (meaning statement).form
-meaning-sequences tree.Bare = tt
-meaning-sequences (tree.Asks (tree.AllStructs class digits)) = rules-sequences (class.rules.first ∷ class.rules.others)
+meaning-sequences (tree.Bare end) = tt
+meaning-sequences (tree.Asks (tree.About command.AllStructs class digits) end) = rules-sequences (class.rules.first ∷ class.rules.others)
+meaning-sequences (tree.Asks (tree.About command.Count class digits) end) = rules-sequences (class.rules.first ∷ class.rules.others)
 
 pub readings-have-sequences : ReadingsHaveSequences
 readings-have-sequences piece read reads = subst (λ (s : Statement). FormHasSequences s.form) reads.reads.means (meaning-sequences reads.reads.tree)

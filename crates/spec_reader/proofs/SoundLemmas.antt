@@ -21,8 +21,7 @@ use Rattle.spec_reader.specs.declared.table.Former.TheVariants as former
 use Rattle.spec_reader.specs.declared.table.Comparison.{Comparison}
 use Rattle.spec_reader.specs.declared.table.Role.{Role}
 use Rattle.spec_reader.specs.declared.table.Role.TheVariants as role
-use Rattle.spec_reader.specs.declared.draft.Command.{Command}
-use Rattle.spec_reader.specs.declared.draft.Command.TheVariants as command
+use Rattle.spec_reader.specs.declared.table.Command.{Command}
 use Rattle.spec_reader.specs.declared.draft.Bound.{Bound}
 use Rattle.spec_reader.specs.declared.draft.Compound.{Compound}
 use Rattle.spec_reader.specs.declared.draft.Draft.{Draft}
@@ -32,7 +31,7 @@ use Rattle.spec_reader.specs.Tokens.{Token, text_of, is_spelled}
 use Rattle.spec_reader.specs.Limits.{is_deeper, repeats}
 use Rattle.spec_reader.specs.Meaning.{turned}
 use Rattle.spec_reader.specs.Seen.{reason_in, seen_after}
-use Rattle.spec_reader.specs.Table.{is_mark, is_reserved, is_name, is_number, head_of, comparison_of, universe_of, arguments, only_if, step, is_shallow, role_of, Takes}
+use Rattle.spec_reader.specs.Table.{is_mark, is_reserved, is_name, is_number, is_end, command_of, head_of, comparison_of, universe_of, arguments, only_if, step, is_shallow, role_of, Takes}
 use Rattle.spec_reader.specs.Drafts.{put, close, rebound, number_in, act, begin_at, is_filled, is_ready, built}
 use Rattle.spec_reader.specs.Machine.{are_distinct, is_sound_seen, is_sound}
 use Rattle.spec_reader.specs.declared.read.Reader.{Reader}
@@ -115,8 +114,17 @@ sized-pending : (found : Option ℕ) (draft : Draft) → (option_map_or (λ size
 sized-pending None draft = refl
 sized-pending (Some size) draft = refl
 
+commanded-pending : (found : Option Command) (quiet : Bool) (draft : Draft)
+    → (option_map_or (λ command. record draft { command = Some command }) found (record draft { quiet = quiet })).pending ≡ draft.pending
+commanded-pending None quiet draft = refl
+commanded-pending (Some command) quiet draft = refl
+
 -- the table can go on after a token
 pub step-ready : (i : Item) (t : Token) (rest : List Item) (draft : Draft) → is_ready (i ∷ rest) draft.pending ≡ true → row_ready (step i t) rest (act i t draft).pending ≡ true
+step-ready item.Statement t rest draft ready =
+    let after : is_ready rest (act item.Statement t draft).pending ≡ true = ap (is_ready rest) (commanded-pending (command_of t) (is_mark sign.Colon t) draft) ∙ ready in
+    either-ready (is_end t) (is_some (command_of t)) _ _ rest (act item.Statement t draft).pending after after
+step-ready item.End t rest draft ready = only_if-ready (is_end t) [] rest draft.pending ready
 step-ready item.Universe t rest draft ready =
     only_if-ready (is_some (universe_of t)) [] rest (act item.Universe t draft).pending (ap (is_ready rest) (named-pending (universe_of t) draft) ∙ ready)
 step-ready item.RightOfZ t rest draft ready = filled-ready (step item.RightOfZ t) rest (put Atom draft).pending (put-filled Atom draft)
@@ -170,9 +178,14 @@ changed-holds : {A : Type 0} (n : ℕ) (change : A → Bound → Bound) (found :
 changed-holds n change None draft holds = same-holds n draft holds
 changed-holds n change (Some x) draft holds = same-holds n (record draft { pending = rebound (change x) draft.pending }) (rebound-holds n (change x) draft holds)
 
-command-holds : (n : ℕ) (b : Bool) (command : Command) (draft : Draft) → Holds n draft → Holds (n + 0) (if b then record draft { command = Some command } else draft)
-command-holds n true command draft holds = same-holds n (record draft { command = Some command }) (record { rights = holds.rights; pending = holds.pending; count = holds.count })
-command-holds n false command draft holds = same-holds n draft holds
+quiet-holds : (n : ℕ) (quiet : Bool) (draft : Draft) → Holds n draft → Holds (n + 0) (record draft { quiet = quiet })
+quiet-holds n quiet draft holds = same-holds n (record draft { quiet = quiet }) (record { rights = holds.rights; pending = holds.pending; count = holds.count })
+
+commanded-holds : (n : ℕ) (found : Option Command) (quiet : Bool) (draft : Draft) → Holds n draft
+    → Holds (n + 0) (option_map_or (λ command. record draft { command = Some command }) found (record draft { quiet = quiet }))
+commanded-holds n None quiet draft holds = quiet-holds n quiet draft holds
+commanded-holds n (Some command) quiet draft holds =
+    same-holds n (record draft { command = Some command }) (record { rights = holds.rights; pending = holds.pending; count = holds.count })
 
 closing-holds : (n : ℕ) (b : Bool) (draft : Draft) → Holds n draft → is_filled draft.pending ≡ true → Holds (n + 0) (if b then close draft else draft)
 closing-holds n true draft holds filled = same-holds n (close draft) (close-holds n draft holds filled)
@@ -180,7 +193,8 @@ closing-holds n false draft holds filled = same-holds n draft holds
 
 -- what is built with a token is well formed, and has at most one expression more where an expression begins
 pub act-holds : (n : ℕ) (i : Item) (t : Token) (rest : List Item) (draft : Draft) → Holds n draft → is_ready (i ∷ rest) draft.pending ≡ true → Holds (n + weight (role_of i)) (act i t draft)
-act-holds n item.Statement t rest draft holds ready = command-holds n (is_reserved word.AllStructs t) command.AllStructs draft holds
+act-holds n item.Statement t rest draft holds ready = commanded-holds n (command_of t) (is_mark sign.Colon t) draft holds
+act-holds n item.End t rest draft holds ready = quiet-holds n (is_mark sign.Colon t) draft holds
 act-holds n item.Symbol t rest draft holds ready = same-holds n (record draft { symbol = text_of t }) (record { rights = holds.rights; pending = holds.pending; count = holds.count })
 act-holds n item.Universe t rest draft holds ready = named-holds n (universe_of t) draft holds
 act-holds n item.RightOfZ t rest draft holds ready = put-holds n Atom draft holds refl

@@ -1,5 +1,5 @@
 -- What the tests of a token say.
-use Rattle.std.proofs.Common.{◌≡◌, ℕ, Bool, true, false, cond, Option, Some, None, List, [], refl, sym, ap, ◌∙◌, inl, inr, ◌⊎◌}
+use Rattle.std.proofs.Common.{◌≡◌, ℕ, Bool, true, false, ◌||◌, cond, Option, Some, None, List, [], refl, sym, ap, ◌∙◌, inl, inr, ◌⊎◌}
 use Rattle.std.specs.Str.{bytes_eq}
 use Rattle.std.specs.Prelude.{find}
 use Rattle.std.proofs.lemmas.Slice.Eq.{bytes_eq-Decides}
@@ -13,10 +13,13 @@ use Rattle.spec_reader.specs.declared.token.Keyword.TheVariants as word
 use Rattle.spec_reader.specs.declared.table.Head.{Head}
 use Rattle.spec_reader.specs.declared.table.Head.TheVariants as head
 use Rattle.spec_reader.specs.declared.table.Former.TheVariants as former
+use Rattle.spec_reader.specs.declared.table.Command.{Command}
+use Rattle.spec_reader.specs.declared.table.Command.TheVariants as command
 use Rattle.spec_reader.specs.declared.table.Comparison.{Comparison}
 use Rattle.spec_reader.specs.declared.table.Comparison.TheVariants as compare
 use Rattle.spec_reader.specs.Tokens.{Token, Mark, Reserved, Name, Number, text_of, sign_text, signs, keyword_text, keyword_of}
-use Rattle.spec_reader.specs.Table.{is_mark, is_reserved, is_name, is_number, head_of, comparison_of, universe_of}
+use Rattle.spec_reader.specs.Grammar.{command_word, EndTree, BySemicolon, ByColon, end_sign}
+use Rattle.spec_reader.specs.Table.{is_mark, is_reserved, is_name, is_number, is_end, command_of, head_of, comparison_of, universe_of}
 
 sign_back : List ℕ → Option Sign
 sign_back text = find (λ s. bytes_eq (sign_text s) text) signs
@@ -117,6 +120,37 @@ mark-same s = (bytes_eq-Decides (sign_text s) (sign_text s)).1 refl
 
 pub reserved-same : (k : Keyword) → is_reserved k (Reserved k) ≡ true
 reserved-same k = (bytes_eq-Decides (keyword_text k) (keyword_text k)).1 refl
+
+-- the end that a sign writes
+abbrev end_by : Bool → EndTree
+end_by true = ByColon
+end_by false = BySemicolon
+
+abbrev pub end_of : Token → EndTree
+end_of t = end_by (is_mark sign.Colon t)
+
+end-tests : (semicolon colon : Bool) (t : Token) → (semicolon ≡ true → t ≡ Mark sign.Semicolon) → (colon ≡ true → t ≡ Mark sign.Colon)
+    → (semicolon || colon) ≡ true → t ≡ Mark (end_sign (end_by colon))
+end-tests _ true t s c ends = c refl
+end-tests true false t s c ends = s refl
+end-tests false false t s c ends = cc
+
+pub end-is : (t : Token) → is_end t ≡ true → t ≡ Mark (end_sign (end_of t))
+end-is t ends = end-tests (is_mark sign.Semicolon t) (is_mark sign.Colon t) t (mark-is sign.Semicolon t) (mark-is sign.Colon t) ends
+
+-- the word of a command
+abbrev pub Commands : Option Command → Token → Type 0
+Commands None t = Unit {0}
+Commands (Some asked) t = t ≡ Reserved (command_word asked)
+
+command-tests : (all count : Bool) (t : Token) → (all ≡ true → t ≡ Reserved word.AllStructs) → (count ≡ true → t ≡ Reserved word.Count)
+    → Commands (cond all (Some command.AllStructs) (cond count (Some command.Count) None)) t
+command-tests true _ t a c = a refl
+command-tests false true t a c = c refl
+command-tests false false t a c = tt
+
+pub command-is : (t : Token) → Commands (command_of t) t
+command-is t = command-tests (is_reserved word.AllStructs t) (is_reserved word.Count t) t (reserved-is word.AllStructs t) (reserved-is word.Count t)
 
 -- the token that an expression begins with
 abbrev pub Begins : Option Head → Token → Type 0

@@ -1,5 +1,5 @@
 -- How a script is cut into pieces.
-use Rattle.std.specs.Prelude.{ℕ, zero, suc, ◌+◌, Bool, true, false, ◌&&◌, ◌||◌, not, ◌==◌, if◌then◌else◌, List, [], ◌∷◌, length, drop, Option, Some, None}
+use Rattle.std.specs.Prelude.{IsTrue, ◌≤◌, ◌<◌, ℕ, zero, suc, ◌+◌, Bool, true, false, ◌&&◌, ◌||◌, not, ◌==◌, if◌then◌else◌, List, [], ◌∷◌, length, drop, map, slice_range, Option, Some, None}
 use Rattle.std.specs.Option.{option_map_or}
 use Rattle.spec_reader.specs.declared.cut.Region.{Region}
 use Rattle.spec_reader.specs.declared.cut.Region.TheVariants.{Open, Comment, Quoted}
@@ -60,6 +60,26 @@ pieces_from zero script at = []
 pieces_from (suc more) script at =
     option_map_or (λ piece. (at + piece.0, at + piece.1) ∷ pieces_from more script (at + piece.1)) (first_piece_of (drop at script)) []
 
--- the pieces of a script in order. It has no more of them than bytes
+-- the pieces behind a place of a script in order. A script has no more of them than bytes
+abbrev pub pieces_behind : List ℕ → ℕ → List (ℕ × ℕ)
+pieces_behind script at = pieces_from (length script) script at
+
+-- the pieces of a script in order
 abbrev pub pieces : List ℕ → List (ℕ × ℕ)
-pieces script = pieces_from (length script) script 0
+pieces script = pieces_behind script 0
+
+-- pieces that stand so many bytes further on
+abbrev pub moved : ℕ → List (ℕ × ℕ) → List (ℕ × ℕ)
+moved by pieces = map (λ piece. (by + piece.0, by + piece.1)) pieces
+
+-- a piece that stands behind a place of a script: it has a byte, and its first one begins a piece
+pub record IsPieceBehind (script : List ℕ) (at : ℕ) (piece : ℕ × ℕ) : Type 0 where
+  pub behind : at ≤ piece.0
+  pub some : piece.0 < piece.1
+  pub within : piece.1 ≤ length script
+  pub begins : IsTrue (begins_piece (slice_range script piece.0 piece.1))
+
+-- each piece stands behind the one before it, and the first one behind a place
+abbrev pub FollowEachOther : List ℕ → ℕ → List (ℕ × ℕ) → Type 0
+FollowEachOther script at [] = Unit {0}
+FollowEachOther script at (piece ∷ rest) = IsPieceBehind script at piece × FollowEachOther script piece.1 rest

@@ -1,17 +1,15 @@
 -- What is built of a statement while its tokens are read.
-use Rattle.std.specs.Prelude.{ℕ, suc, ◌+◌, Bool, true, ◌&&◌, nat_le, is_some, List, [], ◌∷◌, ◌++◌, Option, Some, None, if◌then◌else◌, sum_by}
+use Rattle.std.specs.Prelude.{ℕ, suc, ◌+◌, Bool, true, false, ◌&&◌, nat_le, is_some, List, [], ◌∷◌, ◌++◌, Option, Some, None, if◌then◌else◌, sum_by}
 use Rattle.std.specs.Option.{option_map_or}
 use Rattle.std.specs.List.{list_all}
 use Rattle.spec_syntax.specs.Expression.{Expression, Epsilon, Atom, Name, Union, Prod, Many, expressions_of, nodes, nodes_of_all, has_some, is_well_formed, are_well_formed}
 use Rattle.spec_syntax.specs.declared.statement.Universe.TheVariants as universe
 use Rattle.spec_reader.specs.declared.token.Sign.TheVariants as sign
-use Rattle.spec_reader.specs.declared.token.Keyword.TheVariants as word
 use Rattle.spec_reader.specs.declared.table.Item.{Item}
 use Rattle.spec_reader.specs.declared.table.Item.TheVariants as item
 use Rattle.spec_reader.specs.declared.table.Head.{Head}
 use Rattle.spec_reader.specs.declared.table.Head.TheVariants as head
 use Rattle.spec_reader.specs.declared.table.Former.TheVariants as former
-use Rattle.spec_reader.specs.declared.draft.Command.TheVariants as command
 use Rattle.spec_reader.specs.declared.table.Comparison.TheVariants as compare
 use Rattle.spec_reader.specs.declared.draft.Bound.{Bound}
 use Rattle.spec_reader.specs.declared.draft.BoundPart.{BoundPart}
@@ -22,11 +20,11 @@ use Rattle.spec_reader.specs.declared.draft.Draft.{Draft}
 use Rattle.spec_reader.specs.Tokens as token
 use Rattle.spec_reader.specs.Tokens.{Token, value, text_of}
 use Rattle.spec_reader.specs.Meaning.{card_by, turned}
-use Rattle.spec_reader.specs.Table.{is_mark, is_reserved, head_of, comparison_of, universe_of}
+use Rattle.spec_reader.specs.Table.{is_mark, command_of, head_of, comparison_of, universe_of}
 
--- nothing is built yet, and a universe that isn't written is unlabelled
+-- nothing is built yet, a universe that isn't written is unlabelled, and no colon was read
 abbrev pub empty : Draft
-empty = record { command = None; symbol = []; universe = universe.Unlabelled; rights = []; pending = []; size = 0 }
+empty = record { command = None; symbol = []; universe = universe.Unlabelled; rights = []; pending = []; size = 0; quiet = false }
 
 -- the bound that every number of components keeps
 abbrev pub unbounded : Bound
@@ -90,7 +88,9 @@ number_in token.Stray = None
 
 -- what is built with a token that an item takes
 abbrev pub act : Item → Token → Draft → Draft
-act item.Statement token draft = if is_reserved word.AllStructs token then record draft { command = Some command.AllStructs } else draft
+act item.Statement token draft =
+    option_map_or (λ command. record draft { command = Some command }) (command_of token) (record draft { quiet = is_mark sign.Colon token })
+act item.End token draft = record draft { quiet = is_mark sign.Colon token }
 act item.Symbol token draft = record draft { symbol = text_of token }
 act item.Universe token draft = option_map_or (λ named. record draft { universe = named }) (universe_of token) draft
 act item.RightOfZ token draft = put Atom draft

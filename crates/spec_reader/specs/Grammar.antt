@@ -3,11 +3,13 @@
 -- Each token has a role, which says what it is in the statement as far as a limit asks.
 use Rattle.std.specs.Prelude.{ℕ, suc, List, [], ◌∷◌, ◌++◌, Option, Some, None}
 use Rattle.spec_reader.specs.declared.token.Sign.{Sign}
-use Rattle.spec_reader.specs.declared.token.Sign.TheVariants.{Equals, AtMost, AtLeast, Semicolon, Comma, OpenParen, CloseParen, OpenBracket, CloseBracket, OpenBrace, CloseBrace}
+use Rattle.spec_reader.specs.declared.token.Sign.TheVariants.{Equals, AtMost, AtLeast, Semicolon, Colon, Comma, OpenParen, CloseParen, OpenBracket, CloseBracket, OpenBrace, CloseBrace}
 use Rattle.spec_reader.specs.declared.token.Keyword.{Keyword}
 use Rattle.spec_reader.specs.declared.token.Keyword.TheVariants as keyword
 use Rattle.spec_reader.specs.declared.table.Role.{Role}
 use Rattle.spec_reader.specs.declared.table.Role.TheVariants.{Plain, RuleName, ExprStart, BoundStart, SizeNumber}
+use Rattle.spec_reader.specs.declared.table.Command.{Command}
+use Rattle.spec_reader.specs.declared.table.Command.TheVariants as command
 use Rattle.spec_reader.specs.declared.table.Comparison.{Comparison}
 use Rattle.spec_reader.specs.declared.table.Comparison.TheVariants as compare
 use Rattle.spec_reader.specs.Tokens.{Token, Mark, Reserved, Name, Number}
@@ -161,19 +163,34 @@ pub record ClassTree : Type 0 where
 abbrev pub class : ClassTree → List Marked
 class c = sign OpenBracket ∷ symbol c.symbol ++ (sign Comma ∷ rules c.rules ++ class_end c.universe)
 
-pub data FormTree : Type 0 where
-  AllStructs : (class : ClassTree) (size : List ℕ) → FormTree
+-- "allstructs" | "count"
+abbrev pub command_word : Command → Keyword
+command_word command.AllStructs = keyword.AllStructs
+command_word command.Count = keyword.Count
 
--- form = "allstructs" "(" class "," "size" "=" NUMBER ")"
+pub data FormTree : Type 0 where
+  About : (asked : Command) (class : ClassTree) (size : List ℕ) → FormTree
+
+-- form = ( "allstructs" | "count" ) "(" class "," "size" "=" NUMBER ")"
 abbrev pub form : FormTree → List Marked
-form (AllStructs c digits) =
-    word keyword.AllStructs ∷ sign OpenParen ∷ class c ++ sign Comma ∷ word keyword.Size ∷ sign Equals ∷ size digits ∷ sign CloseParen ∷ []
+form (About asked c digits) =
+    word (command_word asked) ∷ sign OpenParen ∷ class c ++ sign Comma ∷ word keyword.Size ∷ sign Equals ∷ size digits ∷ sign CloseParen ∷ []
+
+-- what ends a statement
+pub data EndTree : Type 0 where
+  BySemicolon : EndTree
+  ByColon : EndTree
+
+-- ";" | ":"
+abbrev pub end_sign : EndTree → Sign
+end_sign BySemicolon = Semicolon
+end_sign ByColon = Colon
 
 pub data StatementTree : Type 0 where
-  Bare : StatementTree
-  Asks : FormTree → StatementTree
+  Bare : (end : EndTree) → StatementTree
+  Asks : (form : FormTree) (end : EndTree) → StatementTree
 
--- statement = [ form ] ";"
+-- statement = [ form ] ( ";" | ":" )
 abbrev pub statement : StatementTree → List Marked
-statement Bare = sign Semicolon ∷ []
-statement (Asks f) = form f ++ sign Semicolon ∷ []
+statement (Bare e) = sign (end_sign e) ∷ []
+statement (Asks f e) = form f ++ sign (end_sign e) ∷ []

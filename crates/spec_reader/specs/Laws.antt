@@ -1,5 +1,6 @@
--- Laws of what pieces read as.
-use Rattle.std.specs.Prelude.{◌≡◌, ◌≤◌, ℕ, IsTrue, Bool, Result, List}
+-- Laws of pieces and of what they read as.
+use Rattle.std.specs.Prelude.{◌≡◌, ◌≤◌, ℕ, IsTrue, Bool, Result, List, [], ◌∷◌, drop}
+use Rattle.std.specs.Option.{option_map_or}
 use Rattle.spec_syntax.specs.Rules.{Rules, is_spec, are_sequences}
 use Rattle.spec_syntax.specs.declared.statement.RulesRef.{RulesRef}
 use Rattle.spec_syntax.specs.declared.statement.RulesRef.TheVariants as rules_ref
@@ -12,7 +13,18 @@ use Rattle.spec_syntax.specs.declared.statement.Form.TheVariants as form
 use Rattle.spec_syntax.specs.declared.statement.Statement.{Statement}
 use Rattle.spec_reader.specs.declared.place.Place.{Place}
 use Rattle.spec_reader.specs.declared.refusal.ReadRefused.{ReadRefused}
+use Rattle.spec_reader.specs.Cutting.{first_piece_of, pieces, moved, FollowEachOther}
 use Rattle.spec_reader.specs.Reading.{ReadsAs, IsFault, Answers}
+
+-- the pieces of a script are its first piece and, further on by its end, those of what follows it
+abbrev pub PiecesGoOn : Type 0
+PiecesGoOn =
+    (script : List ℕ)
+    → pieces script ≡ option_map_or (λ piece. piece ∷ moved piece.1 (pieces (drop piece.1 script))) (first_piece_of script) []
+
+-- each piece of a script stands behind the one before it
+abbrev pub PiecesFollow : Type 0
+PiecesFollow = (script : List ℕ) → FollowEachOther script 0 (pieces script)
 
 -- a piece reads as at most one statement
 abbrev pub OneReading : Type 0
@@ -42,13 +54,14 @@ abbrev pub JobIsInForce : Job → Type 0
 JobIsInForce (job.Grammar class size) = ClassIsInForce class
 JobIsInForce (job.Ready family over size) = ⊥
 
--- is the form in force: to ask for nothing, or for all structures of a class that is written out with its rules
+-- is the form in force: to ask for nothing, or for the number of structures or all structures of a class that is written out
+-- with its rules
 abbrev pub FormIsInForce : Form → Type 0
 FormIsInForce form.Empty = Unit {0}
 FormIsInForce (form.Rules name rules) = ⊥
 FormIsInForce (form.Class name class) = ⊥
 FormIsInForce (form.Iterate name work cursor) = ⊥
-FormIsInForce (form.Count work) = ⊥
+FormIsInForce (form.Count work) = JobIsInForce work
 FormIsInForce (form.List work) = JobIsInForce work
 FormIsInForce (form.Draw work) = ⊥
 FormIsInForce (form.Next name) = ⊥

@@ -26,35 +26,33 @@ is_above n (Name text) = false
 is_above n (Text text) = false
 is_above n Stray = false
 
--- may the token be a size, or the number of a bound
+-- what the limits ask of a role: may its token be a size or the number of a bound, does it name a rule, does an expression
+-- begin with it, and at which depth
+pub record Asked : Type 0 where
+  pub size : Bool
+  pub rule_name : Bool
+  pub expr_start : Bool
+  pub depth : ℕ
+
+abbrev pub asked : Role → Asked
+asked Plain = record { size = false; rule_name = false; expr_start = false; depth = 0 }
+asked RuleName = record { size = false; rule_name = true; expr_start = false; depth = 0 }
+asked (ExprStart depth) = record { size = false; rule_name = false; expr_start = true; depth = depth }
+asked BoundStart = record { size = true; rule_name = false; expr_start = false; depth = 0 }
+asked SizeNumber = record { size = true; rule_name = false; expr_start = false; depth = 0 }
+
 abbrev pub is_size : Role → Bool
-is_size Plain = false
-is_size RuleName = false
-is_size (ExprStart depth) = false
-is_size BoundStart = true
-is_size SizeNumber = true
+is_size role = (asked role).size
 
 abbrev pub is_rule_name : Role → Bool
-is_rule_name Plain = false
-is_rule_name RuleName = true
-is_rule_name (ExprStart depth) = false
-is_rule_name BoundStart = false
-is_rule_name SizeNumber = false
+is_rule_name role = (asked role).rule_name
 
 abbrev pub is_expr_start : Role → Bool
-is_expr_start Plain = false
-is_expr_start RuleName = false
-is_expr_start (ExprStart depth) = true
-is_expr_start BoundStart = false
-is_expr_start SizeNumber = false
+is_expr_start role = (asked role).expr_start
 
 -- an expression deeper than n
 abbrev pub is_deeper : ℕ → Role → Bool
-is_deeper n Plain = false
-is_deeper n RuleName = false
-is_deeper n (ExprStart depth) = nat_lt n depth
-is_deeper n BoundStart = false
-is_deeper n SizeNumber = false
+is_deeper n role = nat_lt n (asked role).depth
 
 abbrev pub first_that_holds : List (Bool × Which) → Option Which
 first_that_holds [] = None
@@ -85,11 +83,7 @@ pub data Reason : Type 0 where
   Repeats : List ℕ → Reason
 
 abbrev pub repeat : List (List ℕ) → Role → Token → Option Reason
-repeat names RuleName token = if repeats names (text_of token) then Some (Repeats (text_of token)) else None
-repeat names Plain token = None
-repeat names (ExprStart depth) token = None
-repeat names BoundStart token = None
-repeat names SizeNumber token = None
+repeat names role token = if is_rule_name role && repeats names (text_of token) then Some (Repeats (text_of token)) else None
 
 abbrev pub limit_or : Option Which → Option Reason → Option Reason
 limit_or (Some which) reason = Some (Passes which)

@@ -1,5 +1,5 @@
 -- Reading tokens one by one, by the table: what is expected, what was seen, and what is built.
-use Rattle.std.specs.Prelude.{ℕ, ◌≡◌, ◌≤◌, Bool, true, false, ◌&&◌, not, nat_le, Option, Some, None, Result, Ok, Err, List, [], ◌∷◌, ◌++◌, reverse, length, zip}
+use Rattle.std.specs.Prelude.{ℕ, ◌≡◌, ◌≤◌, Bool, true, ◌&&◌, not, nat_le, Option, Some, None, Result, Ok, Err, List, [], ◌∷◌, ◌++◌, reverse, length, zip}
 use Rattle.std.specs.List.{list_all}
 use Rattle.spec_syntax.specs.declared.statement.RulesRef.TheVariants as rules_ref
 use Rattle.spec_syntax.specs.declared.statement.ClassRef.TheVariants as class_ref
@@ -14,12 +14,12 @@ use Rattle.spec_reader.specs.declared.refusal.Fault.{Fault}
 use Rattle.spec_reader.specs.declared.refusal.Fault.TheVariants as fault
 use Rattle.spec_reader.specs.declared.table.Item.{Item}
 use Rattle.spec_reader.specs.declared.table.Item.TheVariants as item
-use Rattle.spec_reader.specs.declared.draft.Command.{Command}
-use Rattle.spec_reader.specs.declared.draft.Command.TheVariants as command
+use Rattle.spec_reader.specs.declared.table.Command.{Command}
 use Rattle.spec_reader.specs.declared.seen.Seen.{Seen}
 use Rattle.spec_reader.specs.declared.read.Reader.{Reader}
 use Rattle.spec_reader.specs.Tokens.{Token, Placed}
 use Rattle.spec_reader.specs.Limits.{Reason, Passes, Repeats, repeats}
+use Rattle.spec_reader.specs.Meaning.{asks}
 use Rattle.spec_reader.specs.Seen.{reason_in, seen_after}
 use Rattle.spec_reader.specs.Table.{step, role_of, is_shallow}
 use Rattle.spec_reader.specs.Drafts.{empty, act, is_ready, is_draft}
@@ -60,13 +60,13 @@ rules_from names rights = zip (reverse names) (reverse rights)
 
 abbrev pub form_of : Option Command → Reader → Form
 form_of None reader = form.Empty
-form_of (Some command.AllStructs) reader =
-    form.List (job.Grammar (class_ref.Written reader.draft.symbol (rules_ref.Written (rules_from reader.seen.names reader.draft.rights)) reader.draft.universe) reader.draft.size)
+form_of (Some command) reader =
+    asks command (job.Grammar (class_ref.Written reader.draft.symbol (rules_ref.Written (rules_from reader.seen.names reader.draft.rights)) reader.draft.universe) reader.draft.size)
 
 -- the statement that is built where nothing is expected any more
 abbrev pub finished : List Item → ℕ → Reader → Result Statement Fault
 finished (item ∷ items) end reader = Err (fault.Syntax end)
-finished [] end reader = Ok (record { form = form_of reader.draft.command reader; quiet = false })
+finished [] end reader = Ok (record { form = form_of reader.draft.command reader; quiet = reader.draft.quiet })
 
 abbrev pub fault_of : Reason → Fault
 fault_of (Passes which) = fault.Limit which

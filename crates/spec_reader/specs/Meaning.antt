@@ -1,5 +1,5 @@
 -- What a statement that is written in the grammar says.
-use Rattle.std.specs.Prelude.{ℕ, false, Option, Some, None, List, ◌∷◌, map, codes}
+use Rattle.std.specs.Prelude.{ℕ, Bool, true, false, Option, Some, None, List, ◌∷◌, map, codes}
 use Rattle.spec_syntax.specs.Expression as expression
 use Rattle.spec_syntax.specs.Expression.{Expression, Expressions}
 use Rattle.spec_syntax.specs.Rules.{Rules}
@@ -10,15 +10,18 @@ use Rattle.spec_syntax.specs.declared.statement.Universe.TheVariants as universe
 use Rattle.spec_syntax.specs.declared.statement.RulesRef.TheVariants as rules_ref
 use Rattle.spec_syntax.specs.declared.statement.ClassRef.{ClassRef}
 use Rattle.spec_syntax.specs.declared.statement.ClassRef.TheVariants as class_ref
+use Rattle.spec_syntax.specs.declared.statement.Job.{Job}
 use Rattle.spec_syntax.specs.declared.statement.Job.TheVariants as job
 use Rattle.spec_syntax.specs.declared.statement.Form.{Form}
 use Rattle.spec_syntax.specs.declared.statement.Form.TheVariants as form
 use Rattle.spec_syntax.specs.declared.statement.Statement.{Statement}
+use Rattle.spec_reader.specs.declared.table.Command.{Command}
+use Rattle.spec_reader.specs.declared.table.Command.TheVariants as command
 use Rattle.spec_reader.specs.declared.table.Comparison.{Comparison}
 use Rattle.spec_reader.specs.declared.table.Comparison.TheVariants as compare
 use Rattle.spec_reader.specs.Tokens.{value}
 use Rattle.spec_reader.specs.Grammar as tree
-use Rattle.spec_reader.specs.Grammar.{BoundTree, ExprTree, ExprTrees, RuleTree, RulesTree, SymbolTree, UniverseTree, ClassTree, FormTree, StatementTree}
+use Rattle.spec_reader.specs.Grammar.{BoundTree, ExprTree, ExprTrees, RuleTree, RulesTree, SymbolTree, UniverseTree, ClassTree, FormTree, EndTree, StatementTree}
 
 -- the bounds `card = k`, `card <= k` and `card >= k`
 abbrev pub card_by : Comparison → ℕ → Card
@@ -85,9 +88,19 @@ universe_of (Some tree.Unlabeled) = universe.Unlabelled
 abbrev pub class_of : ClassTree → ClassRef
 class_of class = class_ref.Written (symbol_of class.symbol) (rules_ref.Written (rules_of class.rules)) (universe_of class.universe)
 
+-- what a command asks for
+abbrev pub asks : Command → Job → Form
+asks command.AllStructs work = form.List work
+asks command.Count work = form.Count work
+
 abbrev pub form_of : FormTree → Form
-form_of (tree.AllStructs class digits) = form.List (job.Grammar (class_of class) (value digits))
+form_of (tree.About asked class digits) = asks asked (job.Grammar (class_of class) (value digits))
+
+-- a statement that ends with a colon is quiet
+abbrev pub is_quiet : EndTree → Bool
+is_quiet tree.BySemicolon = false
+is_quiet tree.ByColon = true
 
 abbrev pub meaning : StatementTree → Statement
-meaning tree.Bare = record { form = form.Empty; quiet = false }
-meaning (tree.Asks f) = record { form = form_of f; quiet = false }
+meaning (tree.Bare end) = record { form = form.Empty; quiet = is_quiet end }
+meaning (tree.Asks f end) = record { form = form_of f; quiet = is_quiet end }

@@ -1,5 +1,5 @@
 -- The table of the grammar: what a token may be where something is expected, and what is expected after it.
-use Rattle.std.specs.Prelude.{ℕ, suc, Bool, true, false, List, [], ◌∷◌, ◌++◌, ◌≡◌, nat_le, is_some, Option, Some, None, if◌then◌else◌}
+use Rattle.std.specs.Prelude.{ℕ, suc, Bool, true, false, ◌||◌, List, [], ◌∷◌, ◌++◌, ◌≡◌, nat_le, is_some, Option, Some, None, if◌then◌else◌}
 use Rattle.std.specs.Str.{bytes_eq}
 use Rattle.spec_syntax.specs.declared.expr.Kind.TheVariants as kind
 use Rattle.spec_syntax.specs.declared.statement.Universe.{Universe}
@@ -15,6 +15,8 @@ use Rattle.spec_reader.specs.declared.table.Item.TheVariants as item
 use Rattle.spec_reader.specs.declared.table.Head.{Head}
 use Rattle.spec_reader.specs.declared.table.Head.TheVariants as head
 use Rattle.spec_reader.specs.declared.table.Former.TheVariants as former
+use Rattle.spec_reader.specs.declared.table.Command.{Command}
+use Rattle.spec_reader.specs.declared.table.Command.TheVariants as command
 use Rattle.spec_reader.specs.declared.table.Comparison.{Comparison}
 use Rattle.spec_reader.specs.declared.table.Comparison.TheVariants as compare
 use Rattle.spec_reader.specs.Tokens.{Token, Mark, Reserved, Name, Number, sign_text, keyword_text}
@@ -34,6 +36,16 @@ is_name _ = false
 abbrev pub is_number : Token → Bool
 is_number (Number _) = true
 is_number _ = false
+
+-- a sign that ends a statement
+abbrev pub is_end : Token → Bool
+is_end token = is_mark sign.Semicolon token || is_mark sign.Colon token
+
+-- the command that a word names
+abbrev pub command_of : Token → Option Command
+command_of token =
+    if is_reserved word.AllStructs token then Some command.AllStructs
+    else (if is_reserved word.Count token then Some command.Count else None)
 
 -- how an expression begins with a token
 abbrev pub head_of : Token → Option Head
@@ -77,13 +89,16 @@ only_if fits row = if fits then Some row else None
 abbrev pub more_or_end : Sign → Token → List Item → Option (List Item)
 more_or_end close token row = if is_mark sign.Comma token then Some row else only_if (is_mark close token) []
 
+-- what is expected behind the word of a command
+abbrev pub behind_command : List Item
+behind_command =
+    item.Mark sign.OpenParen ∷ item.Class ∷ item.Mark sign.Comma ∷ item.Reserved word.Size ∷ item.Mark sign.Equals ∷ item.Size
+    ∷ item.Mark sign.CloseParen ∷ item.End ∷ []
+
 -- what is expected after the token, in place of the item that takes it; None where the item can't take it
 abbrev pub step : Item → Token → Option (List Item)
-step item.Statement token =
-    if is_mark sign.Semicolon token then Some []
-    else only_if (is_reserved word.AllStructs token)
-    (item.Mark sign.OpenParen ∷ item.Class ∷ item.Mark sign.Comma ∷ item.Reserved word.Size ∷ item.Mark sign.Equals ∷ item.Size
-    ∷ item.Mark sign.CloseParen ∷ item.Mark sign.Semicolon ∷ [])
+step item.Statement token = if is_end token then Some [] else only_if (is_some (command_of token)) behind_command
+step item.End token = only_if (is_end token) []
 step item.Class token =
     only_if (is_mark sign.OpenBracket token)
     (item.Symbol ∷ item.Mark sign.Comma ∷ item.Rules ∷ item.ClassEnd ∷ [])
@@ -119,6 +134,7 @@ role_of item.Bound = role.BoundStart
 role_of item.CardNumber = role.SizeNumber
 role_of item.Size = role.SizeNumber
 role_of item.Statement = role.Plain
+role_of item.End = role.Plain
 role_of item.Class = role.Plain
 role_of item.Symbol = role.Plain
 role_of item.ClassEnd = role.Plain

@@ -84,7 +84,7 @@ fn piece_len(text: &[u8]) -> usize
 ///
 /// Blanks and comments in front of it are skipped. It ends with the first `;`, or `:` that no `=` follows, that stands
 /// outside comments and strings, and where there is none with the script. `None` where only blanks and comments are
-/// left.
+/// left. The next piece of a script is the first one of what follows the end of this one.
 pub fn first_piece(script: &[u8]) -> Option<(usize, usize)>
     ensures piece { result ≡ first_piece_of script.now }
     ensures first { slice_get (pieces script.now) 0 ≡ result }

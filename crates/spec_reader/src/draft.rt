@@ -8,17 +8,10 @@ ghost use Rattle.spec_reader.specs.Table.{role_of, head_of};
 ghost use Rattle.spec_reader.specs.Drafts.{unbounded, number_in, put, close, with_part, rebind, act, begin_at, empty};
 
 use crate::stack::Stack;
-use crate::table::{Comparison, Former, Head, Item};
-use crate::token::{Keyword, Sign, Token, number};
+use crate::table::{Command, Comparison, Former, Head, Item};
+use crate::token::{Sign, Token, number};
 use spec_syntax::{Card, Expr, ExprShape, Exprs, Kind, Name, Universe};
 use std::alloc::{AllocError, Global};
-
-/// What a statement asks for.
-#[derive(Clone, Copy, Debug)]
-pub(crate) enum Command {
-    /// All structures.
-    AllStructs,
-}
 
 /// A bound on the number of components: how that is compared with a number, which is at most 1000.
 #[derive(Clone, Copy, Debug)]
@@ -106,6 +99,8 @@ pub(crate) struct Draft {
     /// The expressions that aren't whole, the innermost at the top.
     pub(crate) pending: Stack<Compound>,
     pub(crate) size: u32,
+    /// Whether the statement ends with a colon.
+    pub(crate) quiet: bool,
 }
 
 /// The number that a token writes.
@@ -133,6 +128,7 @@ impl Draft {
             rights: Stack::new(alloc),
             pending: Stack::new(alloc),
             size: 0,
+            quiet: false,
         }
     }
 
@@ -199,11 +195,11 @@ impl Draft {
         ensures { OnOk result (self.new ≡ act item (plain token.now) self.old) }
     {
         match item {
-            Item::Statement => {
-                if token.is_reserved(Keyword::AllStructs) {
-                    self.command = Some(Command::AllStructs);
-                }
-            }
+            Item::Statement => match token.command() {
+                Some(command) => self.command = Some(command),
+                None => self.quiet = token.is_mark(Sign::Colon),
+            },
+            Item::End => self.quiet = token.is_mark(Sign::Colon),
             Item::Symbol => self.symbol = Name::from_slice(alloc, token.text())?,
             Item::Universe => {
                 if let Some(universe) = token.universe() {

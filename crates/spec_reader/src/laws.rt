@@ -1,5 +1,12 @@
-//! Laws of what pieces read as.
-ghost use Rattle.spec_reader.specs.Laws.{OneReading, OneFault, SomeAnswer, NeverBoth, ReadingsAreInForce, ReadingsKeep, ReadingsAreSmall, ReadingsHaveSequences};
+//! Laws of pieces and of what they read as.
+ghost use Rattle.spec_reader.specs.Laws.{PiecesGoOn, PiecesFollow, OneReading, OneFault, SomeAnswer, NeverBoth, ReadingsAreInForce, ReadingsKeep, ReadingsAreSmall, ReadingsHaveSequences};
+
+/// The pieces of a script are its first piece and those of what follows it. Each stands behind the one before it, has a
+/// byte, lies within the script, and begins with a byte that begins a piece.
+pub fn the_pieces_of_a_script_follow_each_other()
+    ensures go_on { PiecesGoOn }
+    ensures follow { PiecesFollow }
+{}
 
 /// A piece reads as at most one statement.
 pub fn a_piece_reads_as_one_statement()

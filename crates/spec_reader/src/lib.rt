@@ -19,7 +19,7 @@ mod token;
 pub use cut::first_piece;
 pub use laws::{
     a_piece_has_a_statement_or_a_fault, a_piece_has_one_fault, a_piece_reads_as_one_statement,
-    what_is_read_keeps_the_facts_of_a_specification,
+    the_pieces_of_a_script_follow_each_other, what_is_read_keeps_the_facts_of_a_specification,
 };
 pub use place::{Place, behind};
 pub use refusal::{ReadRefused, Which};

@@ -9,7 +9,7 @@ pub struct Place {
     pub column: u32,
 }
 
-/// The place behind `bytes`, the first of which stands at `start`.
+/// The place behind `bytes`, the first of which stands at `start`. From there it can go on behind the bytes that follow.
 pub fn behind(start: Place, bytes: &[u8]) -> Place
     requires line { start.line + length bytes.now < 2 ^ 32 }
     requires column { start.column + length bytes.now + 1 < 2 ^ 32 }

@@ -6,7 +6,7 @@ ghost use Rattle.spec_reader.specs.Tokens.{is_spelled, tokens};
 ghost use Rattle.spec_reader.specs.Drafts.{is_filled};
 ghost use Rattle.spec_reader.specs.Machine.{Goes, advance, rules_from, finished, run, start, IsStop, IsAnswer, IsWithin, is_sound};
 
-use crate::draft::{Command, Draft};
+use crate::draft::Draft;
 use crate::refusal::Fault;
 use crate::seen::Seen;
 use crate::stack::Stack;
@@ -101,15 +101,16 @@ impl Reader {
         if !expected.is_empty() {
             return Err(Fault::Syntax(end));
         }
+        let quiet = draft.quiet;
         let form = match draft.command {
             None => Form::Empty,
-            Some(Command::AllStructs) => {
+            Some(command) => {
                 let rules = RulesRef::Written(specification(alloc, seen.names, draft.rights)?);
                 let class = ClassRef::Written(draft.symbol, rules, draft.universe);
-                Form::List(Job::Grammar(class, draft.size))
+                command.form(Job::Grammar(class, draft.size))
             }
         };
-        Ok(Statement { form, quiet: false })
+        Ok(Statement { form, quiet })
     }
 }
 

@@ -2,13 +2,13 @@
 ghost use Rattle.std.specs.Prelude.{◌≡◌, IfOk, IsTrue};
 ghost use Rattle.spec_reader.specs.TokenView.{plain};
 ghost use Rattle.spec_reader.specs.Tokens.{text_of};
-ghost use Rattle.spec_reader.specs.Meaning.{turned};
-ghost use Rattle.spec_reader.specs.Table.{head_of, comparison_of, universe_of, step, role_of, is_shallow, Takes, only_if, more_or_end, is_mark, is_reserved, is_name, is_number};
+ghost use Rattle.spec_reader.specs.Meaning.{turned, asks};
+ghost use Rattle.spec_reader.specs.Table.{head_of, command_of, comparison_of, universe_of, step, role_of, is_shallow, Takes, only_if, more_or_end, is_end, is_mark, is_reserved, is_name, is_number};
 ghost use Rattle.spec_reader.specs.declared.table.Item.TheVariants.{Statement, Class, Rule, Expr, Bound};
 
 use crate::stack::Stack;
 use crate::token::{Keyword, Sign, Token};
-use spec_syntax::{Kind, Universe};
+use spec_syntax::{Form, Job, Kind, Universe};
 use std::alloc::AllocError;
 
 /// What is expected. Each item begins with one token.
@@ -16,6 +16,8 @@ use std::alloc::AllocError;
 pub(crate) enum Item {
     /// A whole statement.
     Statement,
+    /// The sign that ends a statement.
+    End,
     /// A class in brackets.
     Class,
     /// The symbol of a class.
@@ -77,6 +79,27 @@ pub(crate) enum Former {
     Prod,
 }
 
+/// What a statement asks for of a class and a size.
+#[derive(Clone, Copy, Debug)]
+pub(crate) enum Command {
+    /// All structures.
+    AllStructs,
+    /// The number of structures.
+    Count,
+}
+
+impl Command {
+    /// What the command asks for.
+    pub(crate) fn form(self, work: Job) -> Form
+        ensures { result ≡ asks self work }
+    {
+        match self {
+            Command::AllStructs => Form::List(work),
+            Command::Count => Form::Count(work),
+        }
+    }
+}
+
 /// How an expression begins.
 #[derive(Clone, Copy, Debug)]
 pub(crate) enum Head {
@@ -120,6 +143,7 @@ impl Item {
             Item::Bound => Role::BoundStart,
             Item::CardNumber | Item::Size => Role::SizeNumber,
             Item::Statement
+            | Item::End
             | Item::Class
             | Item::Symbol
             | Item::ClassEnd
@@ -168,6 +192,13 @@ impl Token<'_> {
         matches!(self, Token::Number(_))
     }
 
+    /// Whether the token is a sign that ends a statement.
+    fn is_end(&self) -> bool
+        ensures { result ≡ is_end (plain self.now) }
+    {
+        self.is_mark(Sign::Semicolon) || self.is_mark(Sign::Colon)
+    }
+
     /// The bytes of a word.
     pub(crate) fn text(&self) -> &[u8]
         ensures { result.now ≡ text_of (plain self.now) }
@@ -176,6 +207,19 @@ impl Token<'_> {
             Token::Reserved(keyword) => keyword.text(),
             Token::Name(text) => text,
             Token::Mark(_) | Token::Number(_) | Token::Text(_) | Token::Stray => &[],
+        }
+    }
+
+    /// The command that a word names.
+    pub(crate) fn command(&self) -> Option<Command>
+        ensures { result ≡ command_of (plain self.now) }
+    {
+        if self.is_reserved(Keyword::AllStructs) {
+            Some(Command::AllStructs)
+        } else if self.is_reserved(Keyword::Count) {
+            Some(Command::Count)
+        } else {
+            None
         }
     }
 
@@ -259,7 +303,7 @@ fn more_or_end(
 fn expand_statement(token: &Token<'_>, stack: &mut Stack<Item>) -> Result<bool, AllocError>
     ensures { IfOk result (λ fits. Takes (step Statement (plain token.now)) fits stack.old stack.new) }
 {
-    if token.is_mark(Sign::Semicolon) {
+    if token.is_end() {
         return Ok(true);
     }
     let row = [
@@ -270,9 +314,9 @@ fn expand_statement(token: &Token<'_>, stack: &mut Stack<Item>) -> Result<bool, 
         Item::Mark(Sign::Equals),
         Item::Size,
         Item::Mark(Sign::CloseParen),
-        Item::Mark(Sign::Semicolon),
+        Item::End,
     ];
-    only_if(token.is_reserved(Keyword::AllStructs), &row, stack)
+    only_if(token.command().is_some(), &row, stack)
 }
 
 /// Takes the token as the beginning of a class.
@@ -339,6 +383,7 @@ pub(crate) fn expand(
 {
     match item {
         Item::Statement => expand_statement(token, stack),
+        Item::End => Ok(token.is_end()),
         Item::Class => expand_class(token, stack),
         Item::Symbol => Ok(token.is_name() || token.is_reserved(Keyword::Z)),
         Item::ClassEnd => {

@@ -6,7 +6,7 @@ use crate::cut::Region;
 use crate::{
     Place, ReadRefused, a_piece_has_a_statement_or_a_fault, a_piece_has_one_fault,
     a_piece_reads_as_one_statement, behind, first_piece, read_statement,
-    what_is_read_keeps_the_facts_of_a_specification,
+    the_pieces_of_a_script_follow_each_other, what_is_read_keeps_the_facts_of_a_specification,
 };
 use spec_syntax::{ClassRef, Expr, ExprShape, Form, Job, Name, RulesRef, Statement};
 use std::alloc::{AllocError, Global};
@@ -16,10 +16,22 @@ use std::test::Fail;
 
 /// What is wanted of pieces, and the pieces.
 ///
-/// Of a statement the table has the size, the universe, the symbol, the number of rules and the last rule, and of a fault
-/// its place, the name that is repeated or the limit that is passed.
+/// Of a statement the table has whether it ends with a colon, whether it asks for the number of structures and not for
+/// all, the size, the universe, the symbol, the number of rules and the last rule, and of a fault its place, the name that
+/// is repeated or the limit that is passed.
 const TABLE: &str = r#"nothing|;
+quiet nothing|:
 1:2|;;
+1:2|:;
+1:9|count([B
+1:6|count;
+1:1|draw([S, {S = Z}], size = 1);
+count 1 Unlabelled S, 1: S = Atom|count([S, {S = Z}], size = 1);
+quiet count 2 Labelled S, 1: S = Epsilon|count([S, {S = Epsilon}, labelled], size = 2):
+quiet 1 Unlabelled S, 1: S = Atom|allstructs([S, {S = Z}], size = 1) :
+1:35|allstructs([S, {S = Z}], size = 1):=
+1:14|count([S, {S := Z}], size = 1);
+limit Size|count([S, {S = Z}], size = 1001):
 1:1|x "a
 1:16|allstructs # so
 1:12|allstructs("ab";
@@ -206,11 +218,24 @@ fn expr_text(alloc: Global, expr: &Expr) -> Result<String, AllocError> {
 
 /// A statement as the table has it.
 fn statement_text(alloc: Global, statement: &Statement) -> Result<String, AllocError> {
-    let Form::List(
-        Job::Grammar(ClassRef::Written(symbol, RulesRef::Written(spec), universe), size),
-    ) = &statement.form
+    let quiet = if statement.quiet { "quiet " } else { "" };
+    let (command, work) = match &statement.form {
+        Form::Empty => return format!(in alloc; "{quiet}nothing"),
+        Form::List(work) => ("", work),
+        Form::Count(work) => ("count ", work),
+        Form::Rules(..)
+        | Form::Class(..)
+        | Form::Iterate(..)
+        | Form::Draw(_)
+        | Form::Next(_)
+        | Form::Finished(_)
+        | Form::Cursor(_)
+        | Form::Rest(_)
+        | Form::Equations(..) => return String::from_str(alloc, "another form"),
+    };
+    let Job::Grammar(ClassRef::Written(symbol, RulesRef::Written(spec), universe), size) = work
     else {
-        return String::from_str(alloc, "nothing");
+        return String::from_str(alloc, "another class");
     };
     let rules = spec.rules();
     if rules == 0 {
@@ -219,7 +244,7 @@ fn statement_text(alloc: Global, statement: &Statement) -> Result<String, AllocE
     let name = name_text(spec.name(rules));
     let right = expr_text(alloc, spec.right(rules))?;
     let symbol = name_text(symbol);
-    format!(in alloc; "{size} {universe:?} {symbol}, {rules}: {name} = {right}")
+    format!(in alloc; "{quiet}{command}{size} {universe:?} {symbol}, {rules}: {name} = {right}")
 }
 
 /// What a piece is read as, as the table has it.
@@ -342,6 +367,7 @@ fn scripts_are_cut_and_places_counted(rt: HostRuntime) {
 
 #[test]
 fn the_laws_can_be_called() {
+    the_pieces_of_a_script_follow_each_other();
     a_piece_reads_as_one_statement();
     a_piece_has_one_fault();
     a_piece_has_a_statement_or_a_fault();
