@@ -14,3 +14,4 @@ pub mod Indexed
 pub mod Positions
 pub mod Mapped
 pub mod Shares
+pub mod RangeSums

@@ -7,3 +7,6 @@ pub mod PartLemmas
 pub mod ZeroParts
 pub mod ChangeLemmas
 pub mod WalkLemmas
+pub mod ZeroSplits
+pub mod SplitSums
+pub mod PascalLemmas

@@ -3,3 +3,5 @@ pub mod Parts
 pub mod Laws
 pub mod Changes
 pub mod WalkView
+pub mod Capped
+pub mod Pascal

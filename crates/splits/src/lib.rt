@@ -1,13 +1,18 @@
-//! The ways to split a supply of labels in a part and what remains.
+//! The ways to split a supply of labels in a part and what remains, and how many there are.
 //!
-//! A contract sees of a walk over them the universe of the supply, and the list of those that are still to come.
+//! A contract sees of a walk over them the universe of the supply, and the list of those that are still to come. Of a table
+//! of binomial coefficients it sees the greatest number that has a row.
 #![tactic(auto)]
 
+mod capped;
 mod labelled;
 mod laws;
+mod pascal;
 mod walk;
 
+pub use capped::{plus, times};
 pub use laws::{parts_are_listed, splits_are_listed};
+pub use pascal::Pascal;
 pub use walk::PartWalk;
 
 #[cfg(test)]
@@ -78,6 +83,31 @@ mod tests {
             pairs.as_slice(),
             [2, 3, 0, 1, 4, 0, 2, 4, 0, 1, 3, 0, 3, 4, 0, 1, 2, 0].as_slice()
         );
+        Ok(())
+    }
+
+    #[test]
+    fn coefficients(rt: HostRuntime) -> Result<(), Fail> {
+        let pascal = Pascal::new(rt.alloc(), 200)?;
+        assert_eq!(rt; pascal.choose(0, 0), Some(1));
+        assert_eq!(rt; pascal.choose(10, 0), Some(1));
+        assert_eq!(rt; pascal.choose(10, 3), Some(120));
+        assert_eq!(rt; pascal.choose(10, 10), Some(1));
+        assert_eq!(rt; pascal.choose(200, 2), Some(19900));
+        assert_eq!(rt; pascal.choose(200, 100), None);
+        Ok(())
+    }
+
+    #[test]
+    fn capped_numbers(rt: HostRuntime) -> Result<(), Fail> {
+        let most = Some(u128::MAX);
+        assert_eq!(rt; plus(Some(2), Some(3)), Some(5));
+        assert_eq!(rt; plus(most, Some(1)), None);
+        assert_eq!(rt; plus(None, Some(0)), None);
+        assert_eq!(rt; times(Some(6), Some(7)), Some(42));
+        assert_eq!(rt; times(most, Some(2)), None);
+        assert_eq!(rt; times(None, Some(0)), Some(0));
+        assert_eq!(rt; times(None, Some(1)), None);
         Ok(())
     }
 
