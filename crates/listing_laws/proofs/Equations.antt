@@ -1,5 +1,5 @@
 -- The equations between listings.
-use Rattle.std.proofs.Common.{◌≡◌, ℕ, zero, suc, ◌+◌, ◌-◌, ◌<◌, List, map, replicate, length, sym, ap, ◌∙◌, subst, inl, inr, arith}
+use Rattle.std.proofs.Common.{◌≡◌, ℕ, ◌+◌, ◌-◌, ◌<◌, List, map, replicate, length, sym, ap, ◌∙◌, subst, arith}
 use Rattle.std.specs.List.{range_with_len}
 use Rattle.std.proofs.lemmas.List.{length-replicate}
 use Rattle.spec_syntax.specs.declared.statement.Universe.TheVariants.{Unlabelled}
@@ -22,7 +22,9 @@ use Rattle.listing_laws.proofs.Components.{no_components_are, by_splits_are, pro
 use Rattle.listing_laws.proofs.RuleLaws.{rule_lists}
 use Rattle.listing_laws.proofs.Hub.{epsilon_lists, atom_lists}
 use Rattle.struct_model.proofs.SupplyLaws.{supply_rises, supply_is}
-use Rattle.listing_laws.proofs.BySize.{of_zeros, splits-replicate, by_splits-by_sizes}
+use Rattle.lists.proofs.RangeSums.{in_range}
+use Rattle.splits.proofs.ZeroSplits.{of_zeros, splits-replicate}
+use Rattle.listing_laws.proofs.BySize.{by_splits-by_sizes}
 
 pub union_is_listed : UnionIsListed
 union_is_listed = record {
@@ -41,18 +43,13 @@ prod_lists g e es u first others rises h =
 zeros_rise : (n : ℕ) → Rises (replicate n 0)
 zeros_rise n = supply_rises Unlabelled (replicate n 0) (supply_is Unlabelled n)
 
-pub in_range : (start count size : ℕ) → IsIn size (range_with_len start count) → size < start + count
-in_range start zero size h = absurd h
-in_range start (suc count) size (inl same) = omega arith
-in_range start (suc count) size (inr there) = omega (arith, in_range (start + 1) count size there)
-
 -- what lists each size lists each split of zeros
 split_sizes : (g : Grammar) (e : Expression) (es : Expressions) (n : ℕ) (first : ℕ → List Structure) (others : ℕ → List (List Structure))
     → ListsSizes g e es n first others → ListsSplits g e es (replicate n 0) (λ u. first (length u)) (λ u. others (length u))
 split_sizes g e es n first others h split there =
     let found : (size : ℕ) × IsIn size (range_with_len 0 (n + 1)) × (split ≡ of_zeros n size) =
     from_map (of_zeros n) split (range_with_len 0 (n + 1)) (subst (IsIn split) (splits-replicate n) there) in
-    let low : found.0 < 0 + (n + 1) = in_range 0 (n + 1) found.0 found.1 in
+    let low : found.0 < 0 + (n + 1) = (in_range found.0 0 (n + 1) found.1).1 in
     subst (λ (s : Split). Lists g e s.part (first (length s.part)) × Lists g (expr.Prod es) s.rest (map product (others (length s.rest)))) (sym found.2) (
       subst (λ (m : ℕ). Lists g e (replicate found.0 0) (first m)) (sym (length-replicate found.0 0)) (h found.0 (omega arith)).0,
       subst (λ (m : ℕ). Lists g (expr.Prod es) (replicate (n - found.0) 0) (map product (others m))) (sym (length-replicate (n - found.0) 0)) (h (n - found.0) (omega arith)).1,

@@ -24,3 +24,8 @@ pub mod Recursion
 pub mod Relabel
 pub mod EndlessMembers
 pub mod ProdLeast
+pub mod Joined
+pub mod Numbers
+pub mod KindLemmas
+pub mod NodeLemmas
+pub mod NodeRanks

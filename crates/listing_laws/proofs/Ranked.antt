@@ -10,7 +10,7 @@ use Rattle.spec_syntax.specs.Expression as expr
 use Rattle.spec_syntax.specs.Expression.{Expression, Expressions, no_expressions, more_expressions, expression_list, expressions_of}
 use Rattle.spec_syntax.specs.Rules.{Rules, symbol, right_side, all_nodes}
 use Rattle.spec_syntax.specs.Grammar.{Grammar}
-use Rattle.spec_syntax.proofs.RulesLemmas.{symbol-within}
+use Rattle.spec_syntax.proofs.RulesLemmas.{symbol-within, some_right}
 use Rattle.struct_model.specs.declared.tree.Form5.{Form5}
 use Rattle.struct_model.specs.declared.tree.Form5.TheVariants as form
 use Rattle.struct_model.specs.Structure.{Structure, Eps, Atom, Named, Alt, Tup, Structures, no_parts, more_parts, part_list, labels, labels_of_parts, size}
@@ -25,7 +25,6 @@ use Rattle.lists.proofs.Places.{get_right}
 use Rattle.lists.proofs.Positions.{slice_some}
 use Rattle.lists.proofs.Tests.{held}
 use Rattle.well_founded.proofs.EndlessLaws.{in_size, node_full}
-use Rattle.well_founded.proofs.LeastRounds.{right_of}
 use Rattle.well_founded.proofs.ManyLaws.{component_is}
 use Rattle.spec_syntax.proofs.ExpressionLemmas.{list_of}
 use Rattle.listing_laws.specs.Laws.{IsNeverEmpty}
@@ -190,7 +189,7 @@ module _ (g : Grammar) (full : OfNone (HoldsNull g) g.rules) (ranks : List ℕ) 
     inside_rule name x s h =
         let numbered = held (nat_eq x) (symbol g.rules name) (and_parts _ _ h).0 in
         let bound = symbol-within g.rules name numbered.0 numbered.1 in
-        let side = right_of g.rules numbered.0 bound.0 bound.1 in
+        let side = some_right g.rules numbered.0 bound.0 bound.1 in
         let found = inside g name numbered.0 side.0 numbered.1 side.1 x s h in
         record {
           right = side.0;

@@ -42,7 +42,7 @@ low_after : (low n : ℕ) → nat_le (low - 1) n ≡ nat_le low (suc n)
 low_after low n = grind (arith, nat_tests)
 
 -- where a component is admitted, the others have the bound after it
-admits-after : (card : Card) (n : ℕ) → admits_some card ≡ true → admits (after_one card) n ≡ admits card (suc n)
+pub admits-after : (card : Card) (n : ℕ) → admits_some card ≡ true → admits (after_one card) n ≡ admits card (suc n)
 admits-after card n h = λ i. low_after card.low n i && within_after card.high n h i
 
 within_some : (high : Option ℕ) (n : ℕ) → is_within high (suc n) ≡ true → is_within high 1 ≡ true
@@ -50,7 +50,7 @@ within_some None n h = refl
 within_some (Some most) n h = grind (arith, nat_tests)
 
 -- a bound that admits components admits one
-admits_one : (card : Card) (n : ℕ) → admits card (suc n) ≡ true → admits_some card ≡ true
+pub admits_one : (card : Card) (n : ℕ) → admits card (suc n) ≡ true → admits_some card ≡ true
 admits_one card n h = within_some card.high n (and_parts (nat_le card.low (suc n)) (is_within card.high (suc n)) h).1
 
 -- ---- parts of a supply

@@ -4,7 +4,6 @@ use Rattle.std.specs.List.{list_all, sum}
 use Rattle.spec_syntax.specs.declared.expr.Card.{Card}
 use Rattle.spec_syntax.specs.declared.expr.Kind.{Kind}
 use Rattle.spec_syntax.specs.declared.expr.Kind.TheVariants as kind
-use Rattle.spec_syntax.specs.Card.{admits}
 use Rattle.spec_syntax.specs.Expression.{Expression, Expressions, Epsilon, Atom, Name, Union, Prod, Many, preorder, is_sequence_at_most, no_expressions, more_expressions, expressions_of, expression_list}
 use Rattle.spec_syntax.specs.Rules.{symbol, right_side, all_nodes, is_spec, are_sequences}
 use Rattle.spec_syntax.specs.Grammar.{Grammar}

@@ -4,6 +4,8 @@
 #![tactic(auto)]
 
 ghost use Rattle.listing_laws.specs.Laws.{WordsAreListed, UnionIsListed, ProdIsListed, SequenceIsListed, SuppliesAreAlike, ExpressionIsListed, WellFoundedIsListed, ListingsRecur, EndlessByMembers};
+ghost use Rattle.listing_laws.specs.Numbers.{NumbersRecur};
+ghost use Rattle.listing_laws.specs.NodeListing.{NodesAreListed, NodesAreCounted};
 
 /// The listing of Epsilon and of Atom is the word alone, on a supply of no label and of one, and the listing of a rule's
 /// name is that of its right side, told by the rule's number.
@@ -55,6 +57,25 @@ pub fn listings_recur()
     ensures { ListingsRecur }
 {}
 
+/// The numbers of structures of a size of a well-founded grammar by the numbers of those inside: a sum over the arguments
+/// of a Union, sums of products over the sizes of a first component, with binomial coefficients in the labelled universe,
+/// and over the numbers of components that the bound of a Sequence admits.
+pub fn numbers_recur()
+    ensures { NumbersRecur }
+{}
+
+/// The listing of a node of a checked grammar on a supply, by the listings of the nodes below it, for each kind but the
+/// containers other than Sequence.
+pub fn nodes_are_listed()
+    ensures { NodesAreListed }
+{}
+
+/// The number of structures of a node of a checked grammar at a size, by the numbers of the nodes below it, for each kind
+/// but the containers other than Sequence.
+pub fn nodes_are_counted()
+    ensures { NodesAreCounted }
+{}
+
 /// Where a grammar has none of the other faults and no container but Sequences, its check refuses a rule as endless exactly
 /// where for some class and size there are, for each number, so many different members.
 pub fn endless_by_members()
@@ -76,6 +97,9 @@ mod tests {
         expression_is_listed();
         well_founded_is_listed();
         listings_recur();
+        numbers_recur();
+        nodes_are_listed();
+        nodes_are_counted();
         endless_by_members();
         Ok(())
     }

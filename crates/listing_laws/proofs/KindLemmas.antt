@@ -1,0 +1,59 @@
+-- Kinds of nodes.
+use Rattle.std.proofs.Common.{◌≡◌, true, false, List, ℕ, refl, sym, ap, ◌∙◌, true≢false}
+use Rattle.spec_syntax.specs.declared.expr.Card.{Card}
+use Rattle.spec_syntax.specs.declared.expr.Kind.{Kind}
+use Rattle.spec_syntax.specs.declared.expr.Kind.TheVariants as kind
+use Rattle.spec_syntax.specs.Expression as expr
+use Rattle.spec_syntax.specs.Expression.{Expression, Expressions, is_sequence_at_most}
+use Rattle.well_founded.specs.declared.node.NodeKind.{NodeKind}
+use Rattle.well_founded.specs.declared.node.NodeKind.TheVariants as told
+use Rattle.well_founded.specs.NodeKinds.{kind_of, container, is_container}
+
+told_container : (k : Kind) → is_container (container k) ≡ true
+told_container kind.Sequence = refl
+told_container kind.Set = refl
+told_container kind.PowerSet = refl
+told_container kind.Cycle = refl
+
+no_container : (k : Kind) (other : NodeKind) → is_container other ≡ false → container k ≡ other → ⊥
+no_container k other none h = true≢false (sym (told_container k) ∙ ap is_container h ∙ none)
+
+pub epsilon_is : (e : Expression) → kind_of e ≡ told.Epsilon → e ≡ expr.Epsilon
+epsilon_is expr.Epsilon h = refl
+epsilon_is (expr.Many k element card) h = absurd (no_container k told.Epsilon refl h)
+epsilon_is e h = absurd (cc)
+
+pub atom_is : (e : Expression) → kind_of e ≡ told.Atom → e ≡ expr.Atom
+atom_is expr.Atom h = refl
+atom_is (expr.Many k element card) h = absurd (no_container k told.Atom refl h)
+atom_is e h = absurd (cc)
+
+pub rule_is : (e : Expression) → kind_of e ≡ told.Rule → (name : List ℕ) × (e ≡ expr.Name name)
+rule_is (expr.Name name) h = (name, refl)
+rule_is (expr.Many k element card) h = absurd (no_container k told.Rule refl h)
+rule_is e h = absurd (cc)
+
+pub union_is : (e : Expression) → kind_of e ≡ told.Union → (es : Expressions) × (e ≡ expr.Union es)
+union_is (expr.Union es) h = (es, refl)
+union_is (expr.Many k element card) h = absurd (no_container k told.Union refl h)
+union_is e h = absurd (cc)
+
+pub prod_is : (e : Expression) → kind_of e ≡ told.Prod → (es : Expressions) × (e ≡ expr.Prod es)
+prod_is (expr.Prod es) h = (es, refl)
+prod_is (expr.Many k element card) h = absurd (no_container k told.Prod refl h)
+prod_is e h = absurd (cc)
+
+pub sequence_is : (e : Expression) → kind_of e ≡ told.Sequence → (element : Expression) × (card : Card) × (e ≡ expr.Many kind.Sequence element card)
+sequence_is (expr.Many kind.Sequence element card) h = (element, card, refl)
+sequence_is e h = absurd (cc)
+
+-- where no container but a Sequence may stand, there is no other kind
+pub no_other_kind : (e : Expression) → is_sequence_at_most e ≡ true → (kind_of e ≡ told.Epsilon → ⊥) → (kind_of e ≡ told.Atom → ⊥) → (kind_of e ≡ told.Rule → ⊥)
+    → (kind_of e ≡ told.Union → ⊥) → (kind_of e ≡ told.Prod → ⊥) → (kind_of e ≡ told.Sequence → ⊥) → ⊥
+no_other_kind expr.Epsilon h epsilon atom rule union prod sequence = epsilon refl
+no_other_kind expr.Atom h epsilon atom rule union prod sequence = atom refl
+no_other_kind (expr.Name name) h epsilon atom rule union prod sequence = rule refl
+no_other_kind (expr.Union es) h epsilon atom rule union prod sequence = union refl
+no_other_kind (expr.Prod es) h epsilon atom rule union prod sequence = prod refl
+no_other_kind (expr.Many kind.Sequence element card) h epsilon atom rule union prod sequence = sequence refl
+no_other_kind (expr.Many k element card) h epsilon atom rule union prod sequence = true≢false (sym h)
