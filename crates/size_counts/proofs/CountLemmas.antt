@@ -1,0 +1,323 @@
+-- The count of a node by those of the nodes below it.
+use Rattle.std.proofs.Common.{◌≡◌, ◌⊎◌, ℕ, zero, suc, ◌+◌, ◌-◌, ◌*◌, ◌<◌, ◌≤◌, min, Bool, true, false, cond, true≢false, List, [], ◌∷◌, ◌++◌, length, map, take, drop, Option, Some, None, slice_get, unwrap_or, refl, sym, ap, ◌∙◌, subst, inl, inr, arith, IsTrue}
+use Rattle.std.specs.Prelude.{◌&&◌, nat_le, if◌then◌else◌}
+use Rattle.std.specs.List.{sum, range_with_len, list_all}
+use Rattle.std.specs.Option.{option_map, option_map_or, option_and_then}
+use Rattle.std.proofs.lemmas.Bool.{cases_lt, leb-true, and_parts}
+use Rattle.std.proofs.lemmas.List.{take_all, nil_from_length}
+use Rattle.std.proofs.lemmas.List.FromFn.{sum_by-map-range_with_len_more, length-map-range_with_len}
+use Rattle.std.proofs.lemmas.Option.{slice_get_within}
+use Rattle.lists.proofs.Positions.{slice_some}
+use Rattle.lists.proofs.Sums.{sum_more}
+use Rattle.lists.proofs.RangeSums.{sum_append}
+use Rattle.spec_syntax.specs.declared.expr.Card.{Card}
+use Rattle.spec_syntax.specs.declared.expr.Kind.TheVariants as kind
+use Rattle.spec_syntax.specs.Card.{admits, is_within}
+use Rattle.spec_syntax.specs.Expression as expr
+use Rattle.spec_syntax.specs.Expression.{Expression, Expressions, expression_list, expressions_of, is_sequence_at_most}
+use Rattle.spec_syntax.specs.Rules.{Rules, all_nodes, symbol, right_side, are_sequences}
+use Rattle.spec_syntax.specs.Nodes.{node_at, name_at, name_of, card_at, children_at, children_of, arguments_at, arguments_of, below, right_node}
+use Rattle.spec_syntax.proofs.NodesLemmas.{in_nodes, length-children_of}
+use Rattle.struct_model.specs.Bounded.{number}
+use Rattle.well_founded.specs.declared.node.NodeKind.{NodeKind}
+use Rattle.well_founded.specs.declared.node.NodeKind.TheVariants as told
+use Rattle.well_founded.specs.NodeKinds.{kind_of}
+use Rattle.well_founded.specs.SameSize.{is_told_inside}
+use Rattle.well_founded.specs.Checked.{Checked, IsChecked, grammar}
+use Rattle.listing_laws.specs.Numbers.{one_at, admitted, exactly}
+use Rattle.splits.specs.Capped.{Tells}
+use Rattle.size_counts.specs.Numbers.{list_number, most_components, suffix_number}
+use Rattle.size_counts.specs.Told.{TellAll}
+use Rattle.size_counts.specs.Suffixes.{SuffixesTold}
+use Rattle.size_counts.specs.Turns.{EachTold, NameTold, LongerTold, word_size}
+use Rattle.size_counts.proofs.Law.{recur}
+use Rattle.size_counts.proofs.ReachedLemmas.{take_one, told_name}
+use Rattle.size_counts.proofs.TableLemmas.{made_at}
+use Rattle.size_counts.proofs.ListLemmas.{tells_by, card_same}
+use Rattle.size_counts.proofs.SuffixLemmas.{again}
+
+some_length : (items : List (Option ℕ)) → (items ≡ [] → ⊥) → 0 < length items
+some_length [] some = absurd (some refl)
+some_length (first ∷ items) some = omega arith
+
+-- a Sequence and its bound
+pub sequence_there : (found : Option Expression) → option_map kind_of found ≡ Some told.Sequence → (element : Expression) × (card : Card) × (found ≡ Some (expr.Many kind.Sequence element card))
+sequence_there None is = absurd (cc)
+sequence_there (Some expr.Epsilon) is = absurd (cc)
+sequence_there (Some expr.Atom) is = absurd (cc)
+sequence_there (Some (expr.Name name)) is = absurd (cc)
+sequence_there (Some (expr.Union es)) is = absurd (cc)
+sequence_there (Some (expr.Prod es)) is = absurd (cc)
+sequence_there (Some (expr.Many kind.Sequence e card)) is = (e, card, refl)
+sequence_there (Some (expr.Many kind.Set e card)) is = absurd (cc)
+sequence_there (Some (expr.Many kind.PowerSet e card)) is = absurd (cc)
+sequence_there (Some (expr.Many kind.Cycle e card)) is = absurd (cc)
+
+-- is it a container but no Sequence
+abbrev pub is_other : NodeKind → Bool
+is_other told.Epsilon = false
+is_other told.Atom = false
+is_other told.Rule = false
+is_other told.Union = false
+is_other told.Prod = false
+is_other told.Sequence = false
+is_other told.Set = true
+is_other told.PowerSet = true
+is_other told.Cycle = true
+
+-- ---- sums
+
+sum_step : {X : Type 0} (f : X → ℕ) (xs : List X) (i : ℕ) (x : X) → slice_get xs i ≡ Some x → sum (map f (take (i + 1) xs)) ≡ sum (map f (take i xs)) + f x
+sum_step f xs i x at =
+    let whole = ap (λ ys. sum (map f ys)) (take_one xs i x at) ∙ sum_append f (take i xs) (x ∷ []) in
+    omega (arith, whole, sum_more (f x) [])
+
+module _ (checked : Checked) (is_checked : IsChecked checked) (node m : ℕ) (now : List (Option ℕ)) where
+  -- a Union
+  pub union_step : (arguments : Expressions) → node_at checked.rules node ≡ Some (expr.Union arguments) → EachTold (grammar checked) (expression_list arguments) (children_at checked.rules node) now m
+      → (i j child : ℕ) (current before after : Option ℕ) → j ≡ i → slice_get (children_at checked.rules node) j ≡ Some child → node_at checked.rules child ≡ slice_get (arguments_at checked.rules node) j
+      → child < length (all_nodes checked.rules) → slice_get now child ≡ Some current
+      → ((x y : ℕ) → Tells before x → Tells current y → Tells after (x + y)) → Tells before (sum (map (λ e. number (grammar checked) e m) (take i (expression_list arguments))))
+      → Tells after (sum (map (λ e. number (grammar checked) e m) (take (i + 1) (expression_list arguments))))
+  union_step arguments at each i j child current before after same child_is_j child_at_j within now_at plus told =
+      let child_is : slice_get (children_at checked.rules node) i ≡ Some child = subst (λ (k : ℕ). slice_get (children_at checked.rules node) k ≡ Some child) same child_is_j in
+      let child_at : node_at checked.rules child ≡ slice_get (arguments_at checked.rules node) i = subst (λ (k : ℕ). node_at checked.rules child ≡ slice_get (arguments_at checked.rules node) k) same child_at_j in
+      let found = slice_some (all_nodes checked.rules) child within in
+      let there : slice_get (expression_list arguments) i ≡ Some found.0 =
+      sym (ap (λ (some : Option Expression). slice_get (option_map_or arguments_of some []) i) at) ∙ sym child_at ∙ found.1 in
+      tells_by after _ _ (sym (sum_step (λ (e : Expression). number (grammar checked) e m) (expression_list arguments) i found.0 there))
+      (plus _ _ told (each i child found.0 current there child_is now_at))
+
+  pub union_all : (arguments : Expressions) → node_at checked.rules node ≡ Some (expr.Union arguments) → (i : ℕ) (told : Option ℕ) → length (children_at checked.rules node) ≤ i
+      → Tells told (sum (map (λ e. number (grammar checked) e m) (take i (expression_list arguments)))) → Tells told (number (grammar checked) (expr.Union arguments) m)
+  union_all arguments at i told all so_far =
+      let count : length (children_at checked.rules node) ≡ length (expression_list arguments) =
+      ap (λ (some : Option Expression). length (option_map_or (children_of node) some [])) at ∙ length-children_of node (expr.Union arguments) in
+      tells_by told _ _
+      (ap (λ (es : List Expression). sum (map (λ e. number (grammar checked) e m) es)) (take_all i (expression_list arguments) (omega (arith, count)))
+      ∙ sym (recur.union (grammar checked) arguments m is_checked.spec is_checked.well_founded (in_nodes checked.rules node _ at)))
+      so_far
+
+  -- a Sequence
+  module _ (element : Expression) (card : Card) (at : node_at checked.rules node ≡ Some (expr.Many kind.Sequence element card)) where
+    abbrev term : ℕ → ℕ
+    term c = if admits card c then list_number (grammar checked) element c m else 0
+
+    -- as many components as the bound admits are looked at
+    pub admitted_looked : (c : ℕ) → admits card c ≡ true → c ≤ m → c ≤ most_components card m
+    admitted_looked c is low = by card.high (second (nat_le card.low c) (is_within card.high c) is)
+      where
+        second : (a b : Bool) → (a && b) ≡ true → b ≡ true
+        second true b is = is
+        second false b is = absurd (true≢false (sym is))
+
+        by : (high : Option ℕ) → is_within high c ≡ true → c ≤ option_map_or (min m) high m
+        by None within = omega arith
+        by (Some high) within = omega (arith, leb-true c high within)
+
+    -- the numbers of lists of c components
+    pub list_is : (c : ℕ) (listed current : Option ℕ) (longer : List (Option ℕ)) → admits card c ≡ true → c ≤ m → LongerTold checked node m longer
+        → (c ≡ 0 → Tells listed (one_at 0 m)) → (c ≡ 1 → listed ≡ current) → (2 ≤ c → slice_get longer (c - 2) ≡ Some listed)
+        → (admits card 1 ≡ true → Tells current (number (grammar checked) element m)) → Tells listed (list_number (grammar checked) element c m)
+    list_is zero listed current longer is low more none one some told =
+        tells_by listed _ _ (sym (recur.no_lists (grammar checked) element card m is_checked.spec is_checked.well_founded (in_nodes checked.rules node _ at))) (none refl)
+    list_is (suc zero) listed current longer is low more none one some told =
+        tells_by listed _ _ (sym (recur.one_list (grammar checked) element card m is_checked.spec is_checked.well_founded (in_nodes checked.rules node _ at)))
+        (subst (λ (o : Option ℕ). Tells o (number (grammar checked) element m)) (sym (one refl)) (told is))
+    list_is (suc (suc c)) listed current longer is low more none one some told =
+        let all = more element card at in
+        let looked = admitted_looked (suc (suc c)) is low in
+        all.each (suc (suc c) - 2) _ listed (some (omega arith))
+        (made_at (λ (k : ℕ). list_number (grammar checked) element k m) 2 (most_components card m - 1) (suc (suc c) - 2) (omega (arith, looked))
+        ∙ ap (λ (k : ℕ). Some (list_number (grammar checked) element k m)) (back c))
+      where
+        back : (c : ℕ) → 2 + (suc (suc c) - 2) ≡ suc (suc c)
+        back c = omega arith
+
+    -- there is room among the longer lists
+    pub longer_room : (longer : List (Option ℕ)) (c : ℕ) → LongerTold checked node m longer → admits card c ≡ true → c ≤ m → 2 ≤ c → c < length longer + 2
+    longer_room longer c more is low two =
+        let all = more element card at in
+        let numbers : length (map (λ (k : ℕ). list_number (grammar checked) element k m) (range_with_len 2 (most_components card m - 1))) ≡ most_components card m - 1 =
+        length-map-range_with_len (λ (k : ℕ). list_number (grammar checked) element k m) 2 (most_components card m - 1) in
+        omega (arith, all.for_each, numbers, admitted_looked c is low)
+
+    sums : (c : ℕ) → sum (map term (range_with_len 0 (c + 1))) ≡ sum (map term (range_with_len 0 c)) + term c
+    sums c = sum_by-map-range_with_len_more (λ (x : ℕ). x) term 0 c c (omega arith)
+
+    pub sequence_step : (c : ℕ) (before listed after : Option ℕ) → admits card c ≡ true → Tells listed (list_number (grammar checked) element c m)
+        → ((x y : ℕ) → Tells before x → Tells listed y → Tells after (x + y)) → Tells before (sum (map (λ c. if admits card c then list_number (grammar checked) element c m else 0) (range_with_len 0 c)))
+        → Tells after (sum (map (λ c. if admits card c then list_number (grammar checked) element c m else 0) (range_with_len 0 (c + 1))))
+    sequence_step c before listed after is told_list plus so_far =
+        tells_by after _ _ (ap (λ (k : ℕ). sum (map term (range_with_len 0 c)) + k) (sym (ap (λ (b : Bool). if b then list_number (grammar checked) element c m else 0) is)) ∙ sym (sums c)) (plus _ _ so_far told_list)
+
+    pub sequence_pass : (c : ℕ) (before : Option ℕ) → admits card c ≡ false → Tells before (sum (map (λ c. if admits card c then list_number (grammar checked) element c m else 0) (range_with_len 0 c)))
+        → Tells before (sum (map (λ c. if admits card c then list_number (grammar checked) element c m else 0) (range_with_len 0 (c + 1))))
+    sequence_pass c before is so_far =
+        let none : term c ≡ 0 = ap (λ (b : Bool). if b then list_number (grammar checked) element c m else 0) is in
+        tells_by before _ _ (let e : sum (map term (range_with_len 0 c)) ≡ sum (map term (range_with_len 0 (c + 1))) = omega (arith, sums c, none) in e) so_far
+
+    -- a step of the loop, where the bound admits so many components
+    pub sequence_taken : (child c : ℕ) (read : Card) (current before listed after sum_now : Option ℕ) (longer : List (Option ℕ))
+        → (admits card 1 ≡ true → EachTold (grammar checked) (element ∷ []) (children_at checked.rules node) now m)
+        → slice_get (children_at checked.rules node) 0 ≡ Some child → slice_get now child ≡ Some current → card_at checked.rules node ≡ Some read → admits read c ≡ true → c ≤ m → LongerTold checked node m longer
+        → (c ≡ 0 → Tells listed (one_at 0 m)) → (c ≡ 1 → listed ≡ current) → (2 ≤ c → slice_get longer (c - 2) ≡ Some listed)
+        → ((x y : ℕ) → Tells before x → Tells listed y → Tells after (x + y)) → sum_now ≡ after
+        → Tells before (sum (map (λ c. if admits card c then list_number (grammar checked) element c m else 0) (range_with_len 0 c)))
+        → Tells sum_now (sum (map (λ c. if admits card c then list_number (grammar checked) element c m else 0) (range_with_len 0 (c + 1))))
+    sequence_taken child c read current before listed after sum_now longer each child_is now_at card_is is low more none one some plus same so_far =
+        let admitted_c : admits card c ≡ true = subst (λ (k : Card). admits k c ≡ true) (card_same (node_at checked.rules node) element card read at card_is) is in
+        let current_told : admits card 1 ≡ true → Tells current (number (grammar checked) element m) = λ may. each may 0 child element current refl child_is now_at in
+        subst (λ (o : Option ℕ). Tells o (sum (map (λ c. if admits card c then list_number (grammar checked) element c m else 0) (range_with_len 0 (c + 1))))) (sym same)
+        (sequence_step c before listed after admitted_c (list_is c listed current longer admitted_c low more none one some current_told) plus so_far)
+
+    pub sequence_passed : (c : ℕ) (read : Card) (before sum_now : Option ℕ) → card_at checked.rules node ≡ Some read → admits read c ≡ false → sum_now ≡ before
+        → Tells before (sum (map (λ c. if admits card c then list_number (grammar checked) element c m else 0) (range_with_len 0 c)))
+        → Tells sum_now (sum (map (λ c. if admits card c then list_number (grammar checked) element c m else 0) (range_with_len 0 (c + 1))))
+    sequence_passed c read before sum_now card_is is same so_far =
+        let refused : admits card c ≡ false = subst (λ (k : Card). admits k c ≡ false) (card_same (node_at checked.rules node) element card read at card_is) is in
+        subst (λ (o : Option ℕ). Tells o (sum (map (λ c. if admits card c then list_number (grammar checked) element c m else 0) (range_with_len 0 (c + 1))))) (sym same) (sequence_pass c before refused so_far)
+
+    pub sequence_all : (c : ℕ) (told : Option ℕ) → c ≡ m + 1 → Tells told (sum (map (λ c. if admits card c then list_number (grammar checked) element c m else 0) (range_with_len 0 c)))
+        → Tells told (number (grammar checked) (expr.Many kind.Sequence element card) m)
+    sequence_all c told same so_far =
+        tells_by told _ _
+        (ap (λ (n : ℕ). sum (map term (range_with_len 0 n))) same
+        ∙ sym (recur.sequence (grammar checked) element card m is_checked.spec is_checked.well_founded (in_nodes checked.rules node _ at)))
+        so_far
+
+  -- a Prod, from its suffixes
+  pub prod_empty : (arguments : Expressions) (zeros : ℕ → Bool) (made : List (Option ℕ)) (told : Option ℕ) → SuffixesTold (grammar checked) arguments m zeros (length (expression_list arguments)) made → made ≡ []
+      → Tells told (one_at 0 m) → Tells told (number (grammar checked) (expr.Prod arguments) m)
+  prod_empty arguments zeros made told all empty is =
+      let none : expression_list arguments ≡ [] = nil_from_length (expression_list arguments) (sym all.for_each ∙ ap (λ (items : List (Option ℕ)). length items) empty) in
+      tells_by told _ _ (sym (ap (λ (es : Expressions). number (grammar checked) (expr.Prod es) m) (sym (again arguments) ∙ ap expressions_of none) ∙ recur.no_components (grammar checked) m)) is
+
+  pub prod_last : (arguments : Expressions) (zeros : ℕ → Bool) (made : List (Option ℕ)) (told : Option ℕ) (p : ℕ) → SuffixesTold (grammar checked) arguments m zeros (length (expression_list arguments)) made
+      → (made ≡ [] → ⊥) → p ≡ length made - 1 → slice_get made p ≡ Some told → Tells told (number (grammar checked) (expr.Prod arguments) m)
+  prod_last arguments zeros made told p all some last there =
+      tells_by told _ _ (ap (λ (es : Expressions). number (grammar checked) (expr.Prod es) m) (again arguments))
+      (all.each p 1 told (omega (arith, last, all.for_each, some_length made some)) there (λ k below. absurd (omega arith)))
+
+-- ---- names
+
+-- of a word, the number is 1 at its size
+word_number : (checked : Checked) (e : Expression) (m size : ℕ) → word_size (kind_of e) ≡ Some size → number (grammar checked) e m ≡ one_at size m
+word_number checked expr.Epsilon m size is = let same : 0 ≡ size = cc in recur.epsilon (grammar checked) m ∙ ap (λ (k : ℕ). one_at k m) same
+word_number checked expr.Atom m size is = let same : 1 ≡ size = cc in recur.atom (grammar checked) m ∙ ap (λ (k : ℕ). one_at k m) same
+word_number checked (expr.Name name) m size is = absurd (cc)
+word_number checked (expr.Union es) m size is = absurd (cc)
+word_number checked (expr.Prod es) m size is = absurd (cc)
+word_number checked (expr.Many kind.Sequence e card) m size is = absurd (cc)
+word_number checked (expr.Many kind.Set e card) m size is = absurd (cc)
+word_number checked (expr.Many kind.PowerSet e card) m size is = absurd (cc)
+word_number checked (expr.Many kind.Cycle e card) m size is = absurd (cc)
+
+no_word : (e : Expression) → word_size (kind_of e) ≡ None → IsTrue (is_told_inside e)
+no_word expr.Epsilon is = absurd (cc)
+no_word expr.Atom is = absurd (cc)
+no_word (expr.Name name) is = refl
+no_word (expr.Union es) is = refl
+no_word (expr.Prod es) is = refl
+no_word (expr.Many kind e card) is = refl
+
+module _ (checked : Checked) (is_checked : IsChecked checked) (node m sym_number right : ℕ) (e : Expression) (at : node_at checked.rules node ≡ Some e)
+    (is : option_map kind_of (node_at checked.rules node) ≡ Some told.Rule) (named : option_and_then (symbol checked.rules) (name_at checked.rules node) ≡ Some sym_number)
+    (right_is : right ≡ right_node checked.rules sym_number) (right_at : node_at checked.rules right ≡ right_side checked.rules sym_number) (within : right < length (all_nodes checked.rules)) where
+  name_of_it : (e : Expression) → kind_of e ≡ told.Rule → option_and_then (symbol checked.rules) (name_of e) ≡ Some sym_number → (f : Expression) → right_side checked.rules sym_number ≡ Some f
+      → number (grammar checked) e m ≡ number (grammar checked) f m
+  name_of_it expr.Epsilon is named f side = absurd (cc)
+  name_of_it expr.Atom is named f side = absurd (cc)
+  name_of_it (expr.Name name) is named f side = recur.name (grammar checked) name sym_number f m is_checked.spec is_checked.well_founded named side
+  name_of_it (expr.Union es) is named f side = absurd (cc)
+  name_of_it (expr.Prod es) is named f side = absurd (cc)
+  name_of_it (expr.Many kind.Sequence e card) is named f side = absurd (cc)
+  name_of_it (expr.Many kind.Set e card) is named f side = absurd (cc)
+  name_of_it (expr.Many kind.PowerSet e card) is named f side = absurd (cc)
+  name_of_it (expr.Many kind.Cycle e card) is named f side = absurd (cc)
+
+  found : (f : Expression) × (node_at checked.rules right ≡ Some f)
+  found = slice_some (all_nodes checked.rules) right within
+
+  same_number : number (grammar checked) e m ≡ number (grammar checked) found.0 m
+  same_number =
+      name_of_it e (let here : Some (kind_of e) ≡ Some told.Rule = sym (ap (option_map kind_of) at) ∙ is in cc)
+      (subst (λ (some : Option Expression). option_and_then (symbol checked.rules) (option_and_then name_of some) ≡ Some sym_number) at named) found.0 (sym right_at ∙ found.1)
+
+  kind_found : (kind : NodeKind) → option_map kind_of (node_at checked.rules right) ≡ Some kind → kind_of found.0 ≡ kind
+  kind_found kind is = let here : Some (kind_of found.0) ≡ Some kind = sym (ap (option_map kind_of) found.1) ∙ is in cc
+
+  pub name_word : (kind : NodeKind) (size : ℕ) (told : Option ℕ) → option_map kind_of (node_at checked.rules right) ≡ Some kind → word_size kind ≡ Some size → Tells told (one_at size m)
+      → Tells told (number (grammar checked) e m)
+  name_word kind size told is_kind word is_told =
+      tells_by told _ _ (sym (same_number ∙ word_number checked found.0 m size (ap word_size (kind_found kind is_kind) ∙ word))) is_told
+
+  pub name_other : (kind : NodeKind) (now : List (Option ℕ)) (told : Option ℕ) → option_map kind_of (node_at checked.rules right) ≡ Some kind → word_size kind ≡ None → NameTold checked node e now m
+      → slice_get now right ≡ Some told → Tells told (number (grammar checked) e m)
+  name_other kind now told is_kind other known there =
+      tells_by told _ _ (sym same_number) (known right found.0 told (ap (λ (all : List ℕ). slice_get all 0) below_is_right) found.1 (no_word found.0 (ap word_size (kind_found kind is_kind) ∙ other)) there)
+    where
+      below_is_right : below checked.rules node e ≡ right ∷ []
+      below_is_right = sym (told_name checked.rules node sym_number right is named right_is e at)
+
+-- of a Sequence whose element and bound are not named
+pub longer_there : (checked : Checked) → IsChecked checked → (node m c : ℕ) (now longer : List (Option ℕ)) (read : Card) → option_map kind_of (node_at checked.rules node) ≡ Some told.Sequence → card_at checked.rules node ≡ Some read
+    → LongerTold checked node m longer → admits read c ≡ true → c ≤ m → 2 ≤ c → c < length longer + 2
+longer_there checked is_checked node m c now longer read is card_is more is_admitted low two =
+    let there = sequence_there (node_at checked.rules node) is in
+    longer_room checked is_checked node m now there.0 there.1 there.2 longer c more
+    (subst (λ (k : Card). admits k c ≡ true) (card_same (node_at checked.rules node) there.0 there.1 read there.2 card_is) is_admitted) low two
+
+-- ---- what a node is
+
+pub kind_here : (rules : Rules) (n : ℕ) (e : Expression) (kind : NodeKind) → node_at rules n ≡ Some e → option_map kind_of (node_at rules n) ≡ Some kind → kind_of e ≡ kind
+kind_here rules n e kind at is = let here : Some (kind_of e) ≡ Some kind = sym (ap (option_map kind_of) at) ∙ is in cc
+
+pub word_count : (checked : Checked) (node m size : ℕ) (e : Expression) (kind : NodeKind) (told : Option ℕ) → node_at checked.rules node ≡ Some e → option_map kind_of (node_at checked.rules node) ≡ Some kind
+    → word_size kind ≡ Some size → Tells told (one_at size m) → Tells told (number (grammar checked) e m)
+word_count checked node m size e kind told at is word is_told =
+    tells_by told _ _ (sym (word_number checked e m size (ap word_size (kind_here checked.rules node e kind at is) ∙ word))) is_told
+
+pub union_there : (e : Expression) → kind_of e ≡ told.Union → (es : Expressions) × (e ≡ expr.Union es)
+union_there expr.Epsilon is = absurd (cc)
+union_there expr.Atom is = absurd (cc)
+union_there (expr.Name name) is = absurd (cc)
+union_there (expr.Union es) is = (es, refl)
+union_there (expr.Prod es) is = absurd (cc)
+union_there (expr.Many kind.Sequence e card) is = absurd (cc)
+union_there (expr.Many kind.Set e card) is = absurd (cc)
+union_there (expr.Many kind.PowerSet e card) is = absurd (cc)
+union_there (expr.Many kind.Cycle e card) is = absurd (cc)
+
+pub prod_there : (e : Expression) → kind_of e ≡ told.Prod → (es : Expressions) × (e ≡ expr.Prod es)
+prod_there expr.Epsilon is = absurd (cc)
+prod_there expr.Atom is = absurd (cc)
+prod_there (expr.Name name) is = absurd (cc)
+prod_there (expr.Union es) is = absurd (cc)
+prod_there (expr.Prod es) is = (es, refl)
+prod_there (expr.Many kind.Sequence e card) is = absurd (cc)
+prod_there (expr.Many kind.Set e card) is = absurd (cc)
+prod_there (expr.Many kind.PowerSet e card) is = absurd (cc)
+prod_there (expr.Many kind.Cycle e card) is = absurd (cc)
+
+-- no node is another container
+sequence_at_most : (e : Expression) → is_sequence_at_most e ≡ true → is_other (kind_of e) ≡ false
+sequence_at_most expr.Epsilon is = refl
+sequence_at_most expr.Atom is = refl
+sequence_at_most (expr.Name name) is = refl
+sequence_at_most (expr.Union es) is = refl
+sequence_at_most (expr.Prod es) is = refl
+sequence_at_most (expr.Many kind.Sequence e card) is = refl
+sequence_at_most (expr.Many kind.Set e card) is = absurd (true≢false (sym is))
+sequence_at_most (expr.Many kind.PowerSet e card) is = absurd (true≢false (sym is))
+sequence_at_most (expr.Many kind.Cycle e card) is = absurd (true≢false (sym is))
+
+pub no_other : (checked : Checked) (node : ℕ) (e : Expression) (kind : NodeKind) → IsTrue (are_sequences checked.rules) → node_at checked.rules node ≡ Some e → option_map kind_of (node_at checked.rules node) ≡ Some kind
+    → is_other kind ≡ true → ⊥
+no_other checked node e kind sequences at is other =
+    true≢false (sym other ∙ ap is_other (sym (kind_here checked.rules node e kind at is)) ∙ sequence_at_most e (all_at (all_nodes checked.rules) node e sequences at))
+  where
+    all_at : (es : List Expression) (i : ℕ) (e : Expression) → list_all is_sequence_at_most es ≡ true → slice_get es i ≡ Some e → is_sequence_at_most e ≡ true
+    all_at [] i e all at = absurd (cc)
+    all_at (first ∷ es) zero e all at = let same : first ≡ e = cc in subst (λ (x : Expression). is_sequence_at_most x ≡ true) same (and_parts (is_sequence_at_most first) (list_all is_sequence_at_most es) all).0
+    all_at (first ∷ es) (suc i) e all at = all_at es i e (and_parts (is_sequence_at_most first) (list_all is_sequence_at_most es) all).1 at

@@ -1,0 +1,129 @@
+-- The counts at a size, filled in by rising rank.
+use Rattle.std.proofs.Common.{◌≡◌, ◌⊎◌, ℕ, zero, suc, ◌+◌, ◌-◌, ◌<◌, ◌≤◌, Bool, true, false, List, [], ◌∷◌, ◌++◌, length, replicate, get_or, Option, Some, None, slice_get, refl, sym, ap, ◌∙◌, subst, inl, inr, arith, IsTrue}
+use Rattle.std.proofs.Math.ListN.{set}
+use Rattle.std.proofs.lemmas.Bool.{cases_lt}
+use Rattle.std.proofs.lemmas.List.{length_push, length-set, length-replicate}
+use Rattle.std.proofs.lemmas.Option.{slice_get_within, slice_get-get_or}
+use Rattle.lists.proofs.Places.{pushed_at}
+use Rattle.spec_syntax.specs.Expression.{Expression}
+use Rattle.spec_syntax.specs.Rules.{all_nodes}
+use Rattle.spec_syntax.specs.Nodes.{node_at}
+use Rattle.spec_syntax.proofs.NodesLemmas.{in_nodes}
+use Rattle.graphs.specs.Graph.{IsMarked}
+use Rattle.struct_model.specs.Bounded.{number}
+use Rattle.well_founded.specs.Checked.{Checked, IsChecked, grammar}
+use Rattle.splits.specs.Capped.{Tells}
+use Rattle.size_counts.specs.declared.tables.Tables.{Tables}
+use Rattle.size_counts.specs.Told.{TellNow}
+use Rattle.size_counts.specs.Turns.{LongerTold, AreLonger}
+use Rattle.size_counts.proofs.Law.{recur}
+use Rattle.size_counts.proofs.ListLemmas.{tells_by}
+
+-- of lower rank, of a least size above m, or of this rank and below node n
+pub record TellSoFar (checked : Checked) (marks : List Bool) (m r n : ℕ) (now : List (Option ℕ)) : Type 0 where
+  pub lower : TellNow checked marks m r now
+  pub here : (node : ℕ) (e : Expression) (told : Option ℕ) → node < n → IsMarked marks node → node_at checked.rules node ≡ Some e → slice_get checked.ranks node ≡ Some r → slice_get now node ≡ Some told
+      → Tells told (number (grammar checked) e m)
+
+pub so_far_none : (checked : Checked) (marks : List Bool) (m r : ℕ) (now : List (Option ℕ)) → TellNow checked marks m r now → TellSoFar checked marks m r 0 now
+so_far_none checked marks m r now lower = record { lower = lower; here = λ node e told below marked at ranked there. absurd (omega arith) }
+
+-- a node that is passed over
+pub so_far_pass : (checked : Checked) (marks : List Bool) (m r n : ℕ) (now : List (Option ℕ)) → TellSoFar checked marks m r n now → (IsMarked marks n → slice_get checked.ranks n ≡ Some r → ⊥)
+    → TellSoFar checked marks m r (n + 1) now
+so_far_pass checked marks m r n now before other = record {
+  lower = before.lower;
+  here = λ node e told below marked at ranked there. elim (cases_lt node n) [
+    | inl earlier ↦ before.here node e told earlier marked at ranked there
+    | inr past ↦ let same : node ≡ n = omega arith in
+        absurd (other (subst (λ (k : ℕ). IsMarked marks k) same marked) (subst (λ (k : ℕ). slice_get checked.ranks k ≡ Some r) same ranked))
+  ];
+}
+
+-- what stands in a list after one entry is set
+set_at : {X : Type 0} (xs : List X) (i j : ℕ) (x y : X) → slice_get (set xs i x) j ≡ Some y → ((j ≡ i) × (y ≡ x)) ⊎ ((j ≡ i → ⊥) × (slice_get xs j ≡ Some y))
+set_at [] i j x y at = absurd (none j at)
+  where
+    none : {X : Type 0} {y : X} (j : ℕ) → slice_get [] j ≡ Some y → ⊥
+    none zero at = cc
+    none (suc j) at = cc
+set_at (first ∷ xs) zero zero x y at = let same : y ≡ x = cc in inl (refl, same)
+set_at (first ∷ xs) zero (suc j) x y at = inr ((λ same. omega (arith, same)), at)
+set_at (first ∷ xs) (suc i) zero x y at = inr ((λ same. omega (arith, same)), at)
+set_at (first ∷ xs) (suc i) (suc j) x y at = elim (set_at xs i j x y at) [
+  | inl here ↦ inl (ap suc here.0, here.1)
+  | inr other ↦ inr ((λ same. other.0 (omega (arith, same))), other.1)
+]
+
+-- a node that is filled in
+pub so_far_more : (checked : Checked) (marks : List Bool) (m r n : ℕ) (now : List (Option ℕ)) (one : Option ℕ) → TellSoFar checked marks m r n now
+    → ((e : Expression) → node_at checked.rules n ≡ Some e → Tells one (number (grammar checked) e m)) → TellSoFar checked marks m r (n + 1) (set now n one)
+so_far_more checked marks m r n now one before is = record {
+  lower = record {
+    for_each = length-set now n one ∙ before.lower.for_each;
+    each = λ node least rank e told marked at least_is rank_is may there. elim (set_at now n node one told there) [
+      | inl here ↦ filled node e told here at
+      | inr other ↦ before.lower.each node least rank e told marked at least_is rank_is may other.1
+    ];
+  };
+  here = λ node e told below marked at ranked there. elim (set_at now n node one told there) [
+    | inl here ↦ filled node e told here at
+    | inr other ↦ before.here node e told (omega (arith, below, other.0)) marked at ranked other.1
+  ];
+}
+  where
+    filled : (node : ℕ) (e : Expression) (told : Option ℕ) → (node ≡ n) × (told ≡ one) → node_at checked.rules node ≡ Some e → Tells told (number (grammar checked) e m)
+    filled node e told here at =
+        subst (λ (o : Option ℕ). Tells o (number (grammar checked) e m)) (sym here.1) (is e (subst (λ (k : ℕ). node_at checked.rules k ≡ Some e) here.0 at))
+
+-- past all nodes the whole rank is told
+pub so_far_all : (checked : Checked) (marks : List Bool) (m r n : ℕ) (now : List (Option ℕ)) → length (all_nodes checked.rules) ≤ n → TellSoFar checked marks m r n now → TellNow checked marks m (r + 1) now
+so_far_all checked marks m r n now all before = record {
+  for_each = before.lower.for_each;
+  each = λ node least rank e told marked at least_is rank_is may there. elim (cases_lt rank r) [
+    | inl less ↦ before.lower.each node least rank e told marked at least_is rank_is (inl less) there
+    | inr past ↦ elim may [
+      | inl within ↦ let same : rank ≡ r = omega arith in
+          before.here node e told (omega (arith, slice_get_within (all_nodes checked.rules) node e at)) marked at (rank_is ∙ ap Some same) there
+      | inr small ↦ before.lower.each node least rank e told marked at least_is rank_is (inr small) there
+    ]
+  ];
+}
+
+-- before any rank, 0 is told of what has no structure so small
+pub tell_zeros : (checked : Checked) (marks : List Bool) (m n : ℕ) → IsChecked checked → n ≡ length (all_nodes checked.rules) → TellNow checked marks m 0 (replicate n (Some 0))
+tell_zeros checked marks m n is_checked same = record {
+  for_each = length-replicate n (Some 0) ∙ same;
+  each = λ node least rank e told marked at least_is rank_is may there. elim may [
+    | inl below ↦ absurd (omega arith)
+    | inr small ↦ subst (λ (o : Option ℕ). Tells o (number (grammar checked) e m)) (sym (all_zero n node told there)) (zero_told e least node at least_is small)
+  ];
+}
+  where
+    all_zero : (n node : ℕ) (told : Option ℕ) → slice_get (replicate n (Some 0)) node ≡ Some told → told ≡ Some 0
+    all_zero zero zero told there = absurd (cc)
+    all_zero zero (suc node) told there = absurd (cc)
+    all_zero (suc n) zero told there = cc
+    all_zero (suc n) (suc node) told there = all_zero n node told there
+
+    zero_told : (e : Expression) (least node : ℕ) → node_at checked.rules node ≡ Some e → slice_get checked.leasts node ≡ Some least → m < least → Tells (Some 0) (number (grammar checked) e m)
+    zero_told e least node at least_is small =
+        let none : number (grammar checked) e m ≡ 0 =
+        recur.below_least (grammar checked) e least m is_checked.spec is_checked.well_founded (in_nodes checked.rules node e at) (is_checked.least.each node least e at least_is) small in
+        subst (λ (k : ℕ). Tells (Some 0) k) (sym none) (refl, omega arith)
+
+-- ---- the longer lists of each node
+
+pub longer_none : (tables : Tables) (m : ℕ) → AreLonger tables m 0 []
+longer_none tables m = record { for_each = refl; each = λ node one there marked. let wrong : ◌≡◌ {A = Option (List (Option ℕ))} None (Some one) = there in absurd (cc) }
+
+pub longer_more : (tables : Tables) (m n : ℕ) (longer more : List (List (Option ℕ))) (one : List (Option ℕ)) → AreLonger tables m n longer → more ≡ longer ++ one ∷ []
+    → (IsMarked tables.marks.items n → LongerTold tables.grammar n m one) → AreLonger tables m (n + 1) more
+longer_more tables m n longer more one before pushed is = subst (λ (items : List (List (Option ℕ))). AreLonger tables m (n + 1) items) (sym pushed) (record {
+  for_each = length_push longer one ∙ ap (λ (k : ℕ). k + 1) before.for_each;
+  each = λ node other there marked. elim (pushed_at longer one node other there) [
+    | inl earlier ↦ before.each node other earlier marked
+    | inr here ↦ let same : node ≡ n = here.0 ∙ before.for_each in
+        subst (λ (k : ℕ). LongerTold tables.grammar k m other) (sym same) (subst (λ (items : List (Option ℕ)). LongerTold tables.grammar n m items) (sym here.1) (is (subst (λ (k : ℕ). IsMarked tables.marks.items k) same marked)))
+  ];
+})

@@ -1,0 +1,15 @@
+pub mod SumLemmas
+pub mod ReachedLemmas
+pub mod Law
+pub mod TableLemmas
+pub mod ListLemmas
+pub mod SuffixLemmas
+pub mod CountLemmas
+pub mod TurnLemmas
+pub mod FillLemmas
+pub mod RowLemmas
+pub mod LayerLemmas
+pub mod SpotLemmas
+pub mod FilledLemmas
+pub mod SaysLaws
+pub mod PlaceWithin

@@ -1,0 +1,64 @@
+use Rattle.std.proofs.Common.{◌≡◌, ap, subst, arith, sym, ◌∙◌, refl, Result, Ok, Err, ℕ, Option, Some, inl, inr}
+use Rattle.std.specs.Result.{IfOk}
+use Rattle.spec_syntax.specs.Expression.{Expression}
+use Rattle.spec_syntax.specs.Nodes.{children_at}
+use Rattle.struct_model.specs.Bounded.{number}
+use Rattle.well_founded.specs.declared.node.NodeKind.TheVariants as told
+use Rattle.well_founded.specs.Checked.{grammar}
+use Rattle.splits.specs.Capped.{Tells}
+use Rattle.size_counts.proofs.CountLemmas.{kind_here, word_count, union_there, prod_there, sequence_there, no_other, is_other}
+use Rattle.size_counts.proofs.TurnLemmas.{turn_union, turn_sequence, turn_name, turn_prod, needs_atoms}
+use Rattle.size_counts.proofs.counts.count_of.Goals as goal
+
+pub returns-in-Epsilon : goal.returns-in-Epsilon
+returns-in-Epsilon c = λ e at. word_count c.args.tables.now.grammar c.args.node c.args.m 0 e told.Epsilon c.one_at.result at c.in-Epsilon.ensures refl c.one_at.ensures
+
+pub returns-in-Atom : goal.returns-in-Atom
+returns-in-Atom c = λ e at. word_count c.args.tables.now.grammar c.args.node c.args.m 1 e told.Atom c.one_at-in-Atom.result at c.in-Atom.ensures refl c.one_at-in-Atom.ensures
+
+pub returns-in-Rule : goal.returns-in-Rule
+returns-in-Rule c = λ e at.
+    c.name_count.ensures e at
+    (turn_name c.args.tables.now.grammar c.args.tables.now.marks.items c.args.tables.now.layers.items c.requires.turn.ready.told c.args.node c.args.m c.args.rank c.args.now.now e c.requires.turn.marked at (c.requires.turn.falls e at)
+    c.requires.turn.now_told c.requires.turn.ready.small (kind_here c.args.tables.now.grammar.rules c.args.node e told.Rule at c.in-Rule.ensures))
+
+pub returns-in-Union : goal.returns-in-Union
+returns-in-Union c = λ e at.
+    let is = union_there e (kind_here c.args.tables.now.grammar.rules c.args.node e told.Union at c.in-Union.ensures) in
+    let here = at ∙ ap Some is.1 in
+    subst (λ (x : Expression). Tells c.union_count.result (number (grammar c.args.tables.now.grammar) x c.args.m)) (sym is.1)
+    (c.union_count.ensures is.0 here
+    (turn_union c.args.tables.now.grammar c.args.tables.now.marks.items c.args.tables.now.layers.items c.requires.turn.ready.told c.args.node c.args.m c.args.rank c.args.now.now is.0 c.requires.turn.marked here
+    (c.requires.turn.falls _ here) c.requires.turn.now_told c.requires.turn.ready.small))
+
+if_ok : {T E : Type 0} (result : Result T E) (P Q : T → Type 0) → ((x : T) → P x → Q x) → IfOk result P → IfOk result Q
+if_ok (Ok x) P Q more is = more x is
+if_ok (Err e) P Q more is = tt
+
+pub returns-in-Prod : goal.returns-in-Prod
+returns-in-Prod c =
+    if_ok c.prod_count.result _ _
+    (λ made given. λ e at.
+    let is = prod_there e (kind_here c.args.tables.now.grammar.rules c.args.node e told.Prod at c.in-Prod.ensures) in
+    let here = at ∙ ap Some is.1 in
+    subst (λ (x : Expression). Tells made (number (grammar c.args.tables.now.grammar) x c.args.m)) (sym is.1)
+    (given is.0 (needs_atoms c.args.tables.now.grammar (children_at c.args.tables.now.grammar.rules c.args.node)) here
+    (turn_prod c.args.tables.now.grammar c.args.tables.now.marks.items c.args.tables.now.layers.items c.requires.turn.ready.told c.args.node c.args.m c.args.rank c.args.now.now is.0 c.requires.turn.marked here
+    (c.requires.turn.falls _ here) c.requires.turn.now_told c.requires.turn.ready.small)))
+    c.prod_count.ensures
+
+pub returns-in-Sequence : goal.returns-in-Sequence
+returns-in-Sequence c = λ e at.
+    let is = sequence_there _ c.in-Sequence.ensures in
+    let same : Some e ≡ Some _ = sym at ∙ is.2 in
+    let e_is : e ≡ _ = cc in
+    subst (λ (x : Expression). Tells c.sequence_count.result (number (grammar c.args.tables.now.grammar) x c.args.m)) (sym e_is)
+    (c.sequence_count.ensures is.0 is.1 is.2
+    (turn_sequence c.args.tables.now.grammar c.args.tables.now.marks.items c.args.tables.now.layers.items c.requires.turn.ready.told c.args.node c.args.m c.args.rank c.args.now.now is.0 is.1 c.requires.turn.marked is.2
+    (c.requires.turn.falls _ is.2) c.requires.turn.now_told c.requires.turn.ready.small))
+
+pub returns-in-Set : goal.returns-in-Set
+returns-in-Set c = λ e at. absurd (no_other c.args.tables.now.grammar c.args.node e c.kind.result c.requires.turn.ready.told.sequences at c.kind.ensures (elim c.in-Set.is [
+  | inl set ↦ ap is_other set
+  | inr others ↦ elim others [ inl power ↦ ap is_other power | inr cycle ↦ ap is_other cycle ]
+]))

@@ -1,0 +1,14 @@
+pub mod Reached
+pub mod Numbers
+pub mod Sums
+pub mod Ways
+pub mod Tables
+pub mod Told
+pub mod Suffixes
+pub mod Turns
+pub mod Layers
+pub mod Spots
+pub mod CountedView
+pub mod Filled
+pub mod CountedCode
+pub mod Laws

@@ -1,0 +1,170 @@
+//! The count of a node at a size, from what is told of others at the same size.
+ghost use Rattle.std.specs.Prelude.{◌≡◌, ◌+◌, ◌-◌, ◌≤◌, ◌<◌, ◌∷◌, [], ℕ, Bool, Some, true, length, slice_get, IfOk, IsTrue};
+ghost use Rattle.std.specs.Option.{option_map};
+ghost use Rattle.spec_syntax.specs.declared.expr.Card.{Card as AnyCard};
+ghost use Rattle.spec_syntax.specs.declared.expr.Kind.TheVariants as kind;
+ghost use Rattle.spec_syntax.specs.Expression.{Expression, Expressions, Union as UnionOf, Prod as ProdOf, Many, expression_list};
+ghost use Rattle.spec_syntax.specs.Card.{admits};
+ghost use Rattle.spec_syntax.specs.Rules.{all_nodes, are_sequences};
+ghost use Rattle.graphs.specs.Graph.{IsMarked};
+ghost use Rattle.spec_syntax.specs.Nodes.{node_at, children_at};
+ghost use Rattle.struct_model.specs.Bounded.{number};
+ghost use Rattle.well_founded.specs.declared.node.NodeKind.TheVariants as told;
+ghost use Rattle.well_founded.specs.NodeKinds.{kind_of};
+ghost use Rattle.well_founded.specs.Checked.{grammar};
+ghost use Rattle.listing_laws.specs.Numbers.{one_at};
+ghost use Rattle.splits.specs.Capped.{Tells};
+ghost use Rattle.size_counts.specs.Numbers.{most_components, list_number};
+ghost use Rattle.size_counts.specs.Told.{IsReady};
+ghost use Rattle.size_counts.specs.Suffixes.{ArgumentsTold};
+ghost use Rattle.size_counts.specs.Turns.{word_size, EachTold, NameTold, LongerTold, IsTurn};
+
+use crate::suffixes::suffixes;
+use crate::tables::Tables;
+use splits::plus;
+use std::alloc::{AllocError, Global};
+use well_founded::NodeKind;
+
+/// 1 where these are equal, and 0 otherwise.
+fn one_at(size: u32, m: u32) -> Option<u128>
+    ensures { Tells result (one_at size m) }
+{
+    Some(if m == size { 1 } else { 0 })
+}
+
+/// The count of a Union, by those of its arguments.
+fn union_count(tables: &Tables, node: u32, m: u32, now: &[Option<u128>]) -> Option<u128>
+    requires ready { IsReady tables.now m }
+    requires within { node < length (all_nodes tables.now.grammar.rules) }
+    requires for_each { length now.now ≡ length (all_nodes tables.now.grammar.rules) }
+    ensures { (arguments : Expressions) → node_at tables.now.grammar.rules node ≡ Some (UnionOf arguments) → EachTold (grammar tables.now.grammar) (expression_list arguments) (children_at tables.now.grammar.rules node) now.now m → Tells result (number (grammar tables.now.grammar) (UnionOf arguments) m) }
+{
+    let mut sum = Some(0);
+    for i in 0..tables.grammar.children(node) {
+        let argument = tables.grammar.child(node, i + 1);
+        sum = plus(sum, now[argument as usize]);
+    }
+    sum
+}
+
+/// The number of lists of c components of a Sequence, by the count of the element and the numbers of longer lists.
+fn list_count(c: u32, m: u32, element: Option<u128>, longer: &[Option<u128>]) -> Option<u128>
+    requires { 2 ≤ c → c < length longer.now + 2 }
+    ensures none { c ≡ 0 → Tells result (one_at 0 m) }
+    ensures one { c ≡ 1 → result ≡ element }
+    ensures more { 2 ≤ c → slice_get longer.now (c - 2) ≡ Some result }
+{
+    match c {
+        0 => one_at(0, m),
+        1 => element,
+        _ => longer[c as usize - 2],
+    }
+}
+
+/// The count of a Sequence, by that of its element and the numbers of longer lists.
+fn sequence_count(
+    tables: &Tables,
+    node: u32,
+    m: u32,
+    now: &[Option<u128>],
+    longer: &[Option<u128>],
+) -> Option<u128>
+    requires ready { IsReady tables.now m }
+    requires sequence { option_map kind_of (node_at tables.now.grammar.rules node) ≡ Some told.Sequence }
+    requires within { node < length (all_nodes tables.now.grammar.rules) }
+    requires for_each { length now.now ≡ length (all_nodes tables.now.grammar.rules) }
+    requires longer { LongerTold tables.now.grammar node m longer.now }
+    ensures { (element : Expression) (card : AnyCard) → node_at tables.now.grammar.rules node ≡ Some (Many kind.Sequence element card) → (admits card 1 ≡ true → EachTold (grammar tables.now.grammar) (element ∷ []) (children_at tables.now.grammar.rules node) now.now m) → Tells result (number (grammar tables.now.grammar) (Many kind.Sequence element card) m) }
+{
+    let card = tables.grammar.card(node);
+    let element = now[tables.grammar.child(node, 1) as usize];
+    let mut sum = Some(0);
+    for c in 0..m + 1 {
+        if card.admits(c) {
+            sum = plus(sum, list_count(c, m, element, longer));
+        }
+    }
+    sum
+}
+
+/// The size of a word, where the node is one.
+fn word_size(kind: NodeKind) -> Option<u32>
+    ensures { result ≡ word_size kind }
+{
+    match kind {
+        NodeKind::Epsilon => Some(0),
+        NodeKind::Atom => Some(1),
+        NodeKind::Rule
+        | NodeKind::Union
+        | NodeKind::Prod
+        | NodeKind::Sequence
+        | NodeKind::Set
+        | NodeKind::PowerSet
+        | NodeKind::Cycle => None,
+    }
+}
+
+/// The count of the name of a rule, by that of the right side.
+fn name_count(tables: &Tables, node: u32, m: u32, now: &[Option<u128>]) -> Option<u128>
+    requires ready { IsReady tables.now m }
+    requires within { node < length (all_nodes tables.now.grammar.rules) }
+    requires name { option_map kind_of (node_at tables.now.grammar.rules node) ≡ Some told.Rule }
+    requires for_each { length now.now ≡ length (all_nodes tables.now.grammar.rules) }
+    ensures { (e : Expression) → node_at tables.now.grammar.rules node ≡ Some e → NameTold tables.now.grammar node e now.now m → Tells result (number (grammar tables.now.grammar) e m) }
+{
+    let right = tables.grammar.rule_node(tables.grammar.sym(node));
+    match word_size(tables.grammar.kind(right)) {
+        Some(size) => one_at(size, m),
+        None => now[right as usize],
+    }
+}
+
+/// The count of a Prod, by those of its arguments.
+fn prod_count(
+    alloc: Global,
+    tables: &Tables,
+    node: u32,
+    m: u32,
+    now: &[Option<u128>],
+) -> Result<Option<u128>, AllocError>
+    requires ready { IsReady tables.now m }
+    requires marked { IsMarked tables.now.marks.items node }
+    requires prod { option_map kind_of (node_at tables.now.grammar.rules node) ≡ Some told.Prod }
+    requires for_each { length now.now ≡ length (all_nodes tables.now.grammar.rules) }
+    ensures { IfOk result (λ made. (arguments : Expressions) (zero : ℕ → Bool) → node_at tables.now.grammar.rules node ≡ Some (ProdOf arguments) → ArgumentsTold (grammar tables.now.grammar) arguments (children_at tables.now.grammar.rules node) now.now m zero → Tells made (number (grammar tables.now.grammar) (ProdOf arguments) m)) }
+{
+    let made = suffixes(alloc, tables, node, m, now)?;
+    if made.is_empty() {
+        return Ok(one_at(0, m));
+    }
+    Ok(*made.at(made.len() - 1))
+}
+
+/// The count of the node, by those of lower rank.
+///
+/// # Errors
+///
+/// Memory may be wanting.
+pub(crate) fn count_of(
+    alloc: Global,
+    tables: &Tables,
+    node: u32,
+    m: u32,
+    rank: u32,
+    now: &[Option<u128>],
+    longer: &[Option<u128>],
+) -> Result<Option<u128>, AllocError>
+    requires turn { IsTurn tables.now node m rank now.now }
+    requires longer { LongerTold tables.now.grammar node m longer.now }
+    ensures { IfOk result (λ told. (e : Expression) → node_at tables.now.grammar.rules node ≡ Some e → Tells told (number (grammar tables.now.grammar) e m)) }
+{
+    match tables.grammar.kind(node) {
+        NodeKind::Epsilon => Ok(one_at(0, m)),
+        NodeKind::Atom => Ok(one_at(1, m)),
+        NodeKind::Rule => Ok(name_count(tables, node, m, now)),
+        NodeKind::Union => Ok(union_count(tables, node, m, now)),
+        NodeKind::Prod => prod_count(alloc, tables, node, m, now),
+        NodeKind::Sequence => Ok(sequence_count(tables, node, m, now, longer)),
+        NodeKind::Set | NodeKind::PowerSet | NodeKind::Cycle => Ok(Some(0)),
+    }
+}

@@ -1,0 +1,100 @@
+//! The counts of all nodes at a size, by rising rank.
+ghost use Rattle.std.specs.Prelude.{◌≡◌, ◌+◌, ◌≤◌, ◌<◌, ℕ, List, Option, Some, length, slice_get, IfOk, OnOk};
+ghost use Rattle.std.specs.Option.{option_map};
+ghost use Rattle.spec_syntax.specs.Rules.{all_nodes};
+ghost use Rattle.spec_syntax.specs.Nodes.{node_at};
+ghost use Rattle.well_founded.specs.declared.node.NodeKind.TheVariants as told;
+ghost use Rattle.well_founded.specs.NodeKinds.{kind_of};
+ghost use Rattle.graphs.specs.Graph.{IsMarked};
+ghost use Rattle.size_counts.specs.Told.{IsReady, TellNow};
+ghost use Rattle.size_counts.specs.Turns.{LongerTold, AreLonger};
+
+use crate::components::longer_lists;
+use crate::counts::count_of;
+use crate::tables::Tables;
+use seq::Seq;
+use std::alloc::{AllocError, Global};
+use well_founded::NodeKind;
+
+/// Of the node, where it is marked and a Sequence, the numbers of lists of two components or more at size m.
+fn longer_of(
+    alloc: Global,
+    tables: &Tables,
+    node: u32,
+    m: u32,
+) -> Result<Seq<Option<u128>>, AllocError>
+    requires ready { IsReady tables.now m }
+    requires within { node < length (all_nodes tables.now.grammar.rules) }
+    ensures { IfOk result (λ made. IsMarked tables.now.marks.items node → LongerTold tables.now.grammar node m made) }
+{
+    if tables.marks[node as usize] && tables.grammar.kind(node) == NodeKind::Sequence {
+        return longer_lists(alloc, tables, node, m);
+    }
+    Ok(Seq::new(alloc))
+}
+
+/// The same of each node.
+///
+/// # Errors
+///
+/// Memory may be wanting.
+pub(crate) fn longer_each(
+    alloc: Global,
+    tables: &Tables,
+    m: u32,
+) -> Result<Vec<Seq<Option<u128>>>, AllocError>
+    requires { IsReady tables.now m }
+    ensures { IfOk result (λ made. AreLonger tables.now m (length (all_nodes tables.now.grammar.rules)) made.items) }
+{
+    let mut made = Vec::new(alloc);
+    for node in 0..tables.grammar.nodes() {
+        made.push(longer_of(alloc, tables, node, m)?)?;
+    }
+    Ok(made)
+}
+
+/// Puts in the counts of the marked nodes of this rank.
+fn fill_rank(
+    alloc: Global,
+    tables: &Tables,
+    m: u32,
+    rank: u32,
+    longer: &[Seq<Option<u128>>],
+    now: &mut [Option<u128>],
+) -> Result<(), AllocError>
+    requires ready { IsReady tables.now m }
+    requires longer { AreLonger tables.now m (length (all_nodes tables.now.grammar.rules)) longer.now }
+    requires lower { TellNow tables.now.grammar tables.now.marks.items m rank now.old }
+    ensures { OnOk result (TellNow tables.now.grammar tables.now.marks.items m (rank + 1) now.new) }
+{
+    for node in 0..tables.grammar.nodes() {
+        if tables.marks[node as usize] && tables.grammar.rank(node) == rank {
+            let longer = longer[node as usize].as_slice();
+            now[node as usize] = count_of(alloc, tables, node, m, rank, now, longer)?;
+        }
+    }
+    Ok(())
+}
+
+/// The counts of all marked nodes at size m.
+///
+/// # Errors
+///
+/// Memory may be wanting.
+pub(crate) fn counts(
+    alloc: Global,
+    tables: &Tables,
+    m: u32,
+    longer: &[Seq<Option<u128>>],
+) -> Result<Vec<Option<u128>>, AllocError>
+    requires ready { IsReady tables.now m }
+    requires longer { AreLonger tables.now m (length (all_nodes tables.now.grammar.rules)) longer.now }
+    ensures { IfOk result (λ now. TellNow tables.now.grammar tables.now.marks.items m (length (all_nodes tables.now.grammar.rules)) now.items) }
+{
+    let nodes = tables.grammar.nodes();
+    let mut now = vec![in alloc; Some(0); nodes as usize]?;
+    for rank in 0..nodes {
+        fill_rank(alloc, tables, m, rank, longer, &mut now)?;
+    }
+    Ok(now)
+}

@@ -1,0 +1,26 @@
+//! Tables of the numbers of a class, by size.
+#![tactic(auto)]
+
+ghost use Rattle.std.specs.Prelude.{◌≡◌};
+
+mod components;
+mod counted;
+mod counts;
+mod fill;
+mod graph;
+mod laws;
+mod layer;
+mod place;
+mod reached;
+mod rows;
+mod spot;
+mod suffixes;
+mod sums;
+mod tables;
+
+pub use counted::Counted;
+pub use laws::numbers_of_a_class_say_one_thing;
+pub use place::{CountFault, Group, Place};
+
+#[cfg(test)]
+mod tests;

@@ -1,0 +1,144 @@
+//! All numbers of the nodes at a size.
+ghost use Rattle.std.specs.Prelude.{◌≡◌, ◌+◌, ◌-◌, ◌≤◌, ◌<◌, ◌∷◌, [], ◌++◌, ℕ, List, Some, map, length, slice_get, IfOk, OnOk};
+ghost use Rattle.std.specs.Option.{option_map};
+ghost use Rattle.spec_syntax.specs.Expression.{Expression};
+ghost use Rattle.spec_syntax.specs.Rules.{all_nodes};
+ghost use Rattle.spec_syntax.specs.Nodes.{node_at};
+ghost use Rattle.graphs.specs.Graph.{IsMarked};
+ghost use Rattle.well_founded.specs.declared.node.NodeKind.TheVariants as told;
+ghost use Rattle.well_founded.specs.NodeKinds.{kind_of};
+ghost use Rattle.well_founded.specs.Checked.{grammar};
+ghost use Rattle.size_counts.specs.Numbers.{others_at, numbers_at};
+ghost use Rattle.size_counts.specs.Told.{values, IsReady, TellAll, TellNow};
+ghost use Rattle.size_counts.specs.Turns.{LongerTold, AreLonger, AreRows};
+
+use crate::components::most_components;
+use crate::suffixes::suffixes;
+use crate::tables::Tables;
+use seq::Seq;
+use std::alloc::{AllocError, Global};
+use well_founded::NodeKind;
+
+/// The suffixes of the Prod from the second on.
+fn later_suffixes(
+    alloc: Global,
+    tables: &Tables,
+    node: u32,
+    m: u32,
+    now: &[Option<u128>],
+) -> Result<Seq<Option<u128>>, AllocError>
+    requires ready { IsReady tables.now m }
+    requires marked { IsMarked tables.now.marks.items node }
+    requires prod { option_map kind_of (node_at tables.now.grammar.rules node) ≡ Some told.Prod }
+    requires now { TellNow tables.now.grammar tables.now.marks.items m (length (all_nodes tables.now.grammar.rules)) now.now }
+    ensures { IfOk result (λ made. (e : Expression) → node_at tables.now.grammar.rules node ≡ Some e → TellAll made (values (others_at (grammar tables.now.grammar) e m))) }
+{
+    let reversed = suffixes(alloc, tables, node, m, now)?;
+    let mut made = Seq::new(alloc);
+    for earlier in 0..reversed.len().saturating_sub(1) {
+        made.push(*reversed.at(reversed.len() - 2 - earlier))?;
+    }
+    Ok(made)
+}
+
+/// The numbers of lists of the Sequence.
+fn all_lists(
+    alloc: Global,
+    tables: &Tables,
+    node: u32,
+    m: u32,
+    now: &[Option<u128>],
+    longer: &[Option<u128>],
+) -> Result<Seq<Option<u128>>, AllocError>
+    requires ready { IsReady tables.now m }
+    requires marked { IsMarked tables.now.marks.items node }
+    requires sequence { option_map kind_of (node_at tables.now.grammar.rules node) ≡ Some told.Sequence }
+    requires now { TellNow tables.now.grammar tables.now.marks.items m (length (all_nodes tables.now.grammar.rules)) now.now }
+    requires longer { LongerTold tables.now.grammar node m longer.now }
+    ensures { IfOk result (λ made. (e : Expression) → node_at tables.now.grammar.rules node ≡ Some e → TellAll made (values (others_at (grammar tables.now.grammar) e m))) }
+{
+    let mut made = Seq::new(alloc);
+    if most_components(tables.grammar.card(node), m) > 0 {
+        made.push(now[tables.grammar.child(node, 1) as usize])?;
+    }
+    made.extend_from_slice(longer)?;
+    Ok(made)
+}
+
+/// The numbers of the node beside its count.
+fn others(
+    alloc: Global,
+    tables: &Tables,
+    node: u32,
+    m: u32,
+    now: &[Option<u128>],
+    longer: &[Option<u128>],
+) -> Result<Seq<Option<u128>>, AllocError>
+    requires ready { IsReady tables.now m }
+    requires marked { IsMarked tables.now.marks.items node }
+    requires now { TellNow tables.now.grammar tables.now.marks.items m (length (all_nodes tables.now.grammar.rules)) now.now }
+    requires longer { LongerTold tables.now.grammar node m longer.now }
+    ensures { IfOk result (λ made. (e : Expression) → node_at tables.now.grammar.rules node ≡ Some e → TellAll made (values (others_at (grammar tables.now.grammar) e m))) }
+{
+    match tables.grammar.kind(node) {
+        NodeKind::Prod => later_suffixes(alloc, tables, node, m, now),
+        NodeKind::Sequence => all_lists(alloc, tables, node, m, now, longer),
+        NodeKind::Epsilon
+        | NodeKind::Atom
+        | NodeKind::Rule
+        | NodeKind::Union
+        | NodeKind::Set
+        | NodeKind::PowerSet
+        | NodeKind::Cycle => Ok(Seq::new(alloc)),
+    }
+}
+
+/// The numbers of the node, where it is marked: its count, and then the others.
+fn row(
+    alloc: Global,
+    tables: &Tables,
+    node: u32,
+    m: u32,
+    now: &[Option<u128>],
+    longer: &[Option<u128>],
+) -> Result<Seq<Option<u128>>, AllocError>
+    requires ready { IsReady tables.now m }
+    requires within { node < length (all_nodes tables.now.grammar.rules) }
+    requires now { TellNow tables.now.grammar tables.now.marks.items m (length (all_nodes tables.now.grammar.rules)) now.now }
+    requires longer { IsMarked tables.now.marks.items node → LongerTold tables.now.grammar node m longer.now }
+    ensures told { IfOk result (λ made. (e : Expression) → IsMarked tables.now.marks.items node → node_at tables.now.grammar.rules node ≡ Some e → TellAll made (values (numbers_at (grammar tables.now.grammar) e m))) }
+    ensures empty { IfOk result (λ made. (IsMarked tables.now.marks.items node → ⊥) → made ≡ []) }
+{
+    let mut made = Seq::new(alloc);
+    if tables.marks[node as usize] {
+        made.push(now[node as usize])?;
+        let others = others(alloc, tables, node, m, now, longer)?;
+        made.extend_from_slice(others.as_slice())?;
+    }
+    Ok(made)
+}
+
+/// The numbers of each node at size m.
+///
+/// # Errors
+///
+/// Memory may be wanting.
+pub(crate) fn rows(
+    alloc: Global,
+    tables: &Tables,
+    m: u32,
+    now: &[Option<u128>],
+    longer: &[Seq<Option<u128>>],
+) -> Result<Vec<Seq<Option<u128>>>, AllocError>
+    requires ready { IsReady tables.now m }
+    requires now { TellNow tables.now.grammar tables.now.marks.items m (length (all_nodes tables.now.grammar.rules)) now.now }
+    requires longer { AreLonger tables.now m (length (all_nodes tables.now.grammar.rules)) longer.now }
+    ensures { IfOk result (λ made. AreRows tables.now m (length (all_nodes tables.now.grammar.rules)) made.items) }
+{
+    let mut made = Vec::new(alloc);
+    for node in 0..tables.grammar.nodes() {
+        let longer = longer[node as usize].as_slice();
+        made.push(row(alloc, tables, node, m, now, longer)?)?;
+    }
+    Ok(made)
+}
