@@ -1,0 +1,24 @@
+-- What the code's commands ask for, and what its answers come to.
+use Rattle.session.specs.declared.answer.Command.{Command}
+use Rattle.session.specs.declared.answer.Command.TheVariants as command
+use Rattle.session.specs.declared.answer.Answer.{Answer}
+use Rattle.session.specs.declared.answer.Answer.TheVariants as told
+use Rattle.session.specs.Refusals.{IsTold}
+use Rattle.session.specs.Effect.{AnswerText, Effect, Setting, doing_nothing, answering, refusing, listing_text, number_text}
+
+-- the text that a command asks for
+abbrev pub text_of : Command → AnswerText
+text_of command.Count = number_text
+text_of command.List = listing_text
+
+-- the effect of an answer, once it is written
+abbrev pub effect_of : Answer → Setting → Effect
+effect_of told.Nothing setting = doing_nothing setting
+effect_of (told.Text text) setting = answering setting text
+effect_of (told.Refused why) setting = refusing setting why
+
+-- a line can tell the answer, where it is a refusal
+abbrev pub CanBeTold : Answer → Type 0
+CanBeTold told.Nothing = Unit {0}
+CanBeTold (told.Text text) = Unit {0}
+CanBeTold (told.Refused why) = IsTold why

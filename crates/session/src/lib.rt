@@ -1,0 +1,24 @@
+//! A session runs statements one after another, and keeps what they leave.
+#![tactic(auto)]
+
+mod answer;
+mod column;
+mod components;
+mod fault;
+mod laws;
+mod list;
+mod refusal;
+mod relabel;
+mod sequence;
+mod session;
+mod text;
+mod texts;
+
+pub use fault::{Outcome, SessionFault};
+pub use laws::each_statement_has_one_effect;
+pub use refusal::{Refusal, refusal_line};
+pub use session::Session;
+pub use texts::TextForm;
+
+#[cfg(test)]
+mod tests;
