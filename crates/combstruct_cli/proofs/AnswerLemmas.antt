@@ -1,68 +1,23 @@
--- Laws of what a statement does.
+-- Laws of the answer to a script.
 use Rattle.std.specs.Io.KnownBytes.{Consumes}
 use Rattle.std.proofs.lemmas.Bool.Decides.{nat_tests}
 use Rattle.std.proofs.lemmas.List.{take_all, take-append-le, append-nil}
+use Rattle.std.proofs.Common.{◌≡◌, ◌≢◌, ◌⊎◌, inl, inr, ◌<◌, ◌≤◌, ◌+◌, Bool, true, false, [], ◌∷◌, take, subst, leb, arith, ℕ, List, ◌++◌, length, Option, Some, None, refl, sym, ap, ◌∙◌}
 use Rattle.spec_reader.specs.declared.refusal.Which.TheVariants as which
+use Rattle.spec_reader.specs.declared.refusal.ReadRefused.TheVariants as read
+use Rattle.session.specs.declared.refusal.Refusal.TheVariants as refusal
 use Rattle.combstruct_cli.specs.declared.run.Status.TheVariants as status
 use Rattle.combstruct_cli.specs.declared.run.Outcome.TheVariants.{Done, Refused}
 use Rattle.combstruct_cli.specs.Outcome.{outcome_of}
-use Rattle.std.proofs.Common.{suc, unwrap_or, option_map, is_some, if◌then◌else◌, ◌≡◌, ◌≢◌, ◌⊎◌, inl, inr, ◌<◌, ◌≤◌, ◌+◌, Bool, true, false, [], ◌∷◌, take, subst, leb, arith, ℕ, List, ◌++◌, length, codes, Option, Some, None, refl, sym, ap, ◌∙◌}
-use Rattle.std.specs.Option.{option_or}
-use Rattle.std.specs.Cmp.Lexicographic.{same_text}
-use Rattle.spec_syntax.specs.Expression.{Expression, Name}
-use Rattle.spec_syntax.specs.Rules.{Rules, rule_name, is_same_name, symbol as symbol_of}
-use Rattle.struct_model.specs.Structure.{Structure, parts_of}
-use Rattle.struct_model.specs.Membership.{supply}
-use Rattle.struct_model.specs.Text.{maple_parts}
-use Rattle.struct_model.specs.Bounded.{listing}
-use Rattle.well_founded.specs.Names.{name_without_rule, symbol_without_rule, undefined_name}
-use Rattle.well_founded.specs.Checked.{Checked, grammar}
-use Rattle.spec_syntax.proofs.RulesLemmas.{found_rule}
-use Rattle.combstruct_cli.specs.declared.refusal.Refusal.TheVariants as refusal
-use Rattle.combstruct_cli.specs.NodeListing.{listing_of_rule}
 use Rattle.combstruct_cli.specs.Input.{IsSpent, TookOver}
-use Rattle.combstruct_cli.specs.Answer.{refusing, listing_text, nothing, place_in, refusing_long, refusing_syntax, refusing_second, usage_answer, Answer, status_of, AnswersScript, IsAnswer}
-
--- the rule of a name has the name
-rule_named : (rules : Rules) (symbol : List ℕ) (n : ℕ) → symbol_of rules symbol ≡ Some n → rule_name rules n ≡ symbol
-rule_named rules symbol n found =
-    let rule = found_rule (λ rule. is_same_name rule.0 symbol) rules 1 n found in
-    let number : suc rule.0 ≡ n = omega (arith, rule.2) in
-    ap (rule_name rules) (sym number)
-    ∙ ap (λ (o : Option (List ℕ × Expression)). unwrap_or (option_map (λ (r : List ℕ × Expression). r.0) o) []) rule.3
-    ∙ same_text rule.1.0 symbol (sym rule.4)
-
--- the text of the listing of a checked class is that of the class
-pub text_listed : (checked : Checked) (symbol : List ℕ) (n size : ℕ) → symbol_of checked.rules symbol ≡ Some n
-    → codes "[" ++ maple_parts checked.rules (parts_of (listing_of_rule checked n size)) ++ codes "]\n" ≡ listing_text (grammar checked) symbol size
-text_listed checked symbol n size found =
-    ap (λ (ss : List Structure). codes "[" ++ maple_parts checked.rules (parts_of ss) ++ codes "]\n")
-    (ap (λ (name : List ℕ). listing (grammar checked) (Name name) (supply checked.universe size)) (rule_named checked.rules symbol n found))
-
--- where no name is undefined, the class symbol has a rule
-pub symbol_defined : (rules : Rules) (symbol : List ℕ) → undefined_name rules (Some symbol) ≡ None → symbol_of rules symbol ≢ None
-symbol_defined rules symbol defined none = by (name_without_rule rules) defined
-  where
-    lacking : symbol_without_rule rules (Some symbol) ≡ Some symbol
-    lacking = ap (λ (found : Option ℕ). if is_some found then None else Some symbol) none
-
-    by : (first : Option (List ℕ)) → option_or first (symbol_without_rule rules (Some symbol)) ≡ None → ⊥
-    by None h = let some : Some symbol ≡ None = sym lacking ∙ h in absurd (cc)
-    by (Some name) h = absurd (cc)
+use Rattle.combstruct_cli.specs.Answer.{telling, nothing, place_in, refusing_long, usage_answer, Answer, status_of, AnswersScript, IsAnswer}
 
 -- a script is too long or not
 pub refusing_long-short : (script : List ℕ) → length script ≤ 16777216 → nothing ≡ refusing_long script
 refusing_long-short script short = grind (arith, nat_tests)
 
-pub refusing_long-long : (script : List ℕ) → 16777216 < length script → refusing (place_in script 16777216).line (refusal.Limit which.Script) ≡ refusing_long script
+pub refusing_long-long : (script : List ℕ) → 16777216 < length script → telling (place_in script 16777216).line (refusal.Read (read.Limit which.Script)) ≡ refusing_long script
 refusing_long-long script long = grind (arith, nat_tests)
-
--- a second piece begins early enough or not
-pub refusing_second-early : (script : List ℕ) (at : ℕ) → at < 16777216 → refusing_syntax (place_in script at) ≡ refusing_second script at
-refusing_second-early script at early = grind (arith, nat_tests)
-
-pub refusing_second-late : (script : List ℕ) (at : ℕ) → 16777216 ≤ at → refusing_long script ≡ refusing_second script at
-refusing_second-late script at late = grind (arith, nat_tests)
 
 taken_within : (most : ℕ) (given script rest : List ℕ) → given ≡ script ++ rest → (length script ≤ most → rest ≡ []) → length script ≤ most + 1 → script ≡ take (most + 1) given
 taken_within most given script rest split at_end bound = cut (leb (length script) most) refl

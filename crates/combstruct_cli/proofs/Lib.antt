@@ -1,15 +1,7 @@
 pub mod AnswerLemmas
-pub mod ColumnLemmas
 pub mod InputLemmas
-pub mod ListerSteps
-pub mod NodeLemmas
+pub mod PieceLemmas
 pub mod ReadingLemmas
 pub mod RunLemmas
-pub mod TextLemmas
+pub mod StepLemmas
 pub mod Unique
-pub mod RelabelLemmas
-pub mod SplitLemmas
-pub mod KindLemmas
-pub mod ProdLemmas
-pub mod SequenceLemmas
-pub mod Measures

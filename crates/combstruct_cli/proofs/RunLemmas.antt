@@ -1,18 +1,18 @@
--- Laws of effects that are made one after the other, and of the counts of faults at their end.
+-- Laws of parts of a script that are run one after the other, and of the counts of faults at their end.
 use Rattle.std.proofs.Common.{◌≡◌, ◌≢◌, ◌⊎◌, inl, inr, ◌≤◌, [], ◌∷◌, length, arith, ℕ, Bool, true, false, List, ◌||◌, Option, Result, Ok, Err, refl, sym, ap, subst, ◌∙◌}
 use Rattle.std.specs.Io.KnownBytes.{Appends}
 use Rattle.comb_io.specs.Parts.{AppendsProperPrefix}
 use Rattle.comb_io.specs.Writes.{Write, Wrote, WrotePart}
-use Rattle.comb_io.proofs.Written.{Wrote-nil, Wrote-append, Wrote-to_out, Wrote-to_err, WrotePart-append, WrotePart-after, WrotePart-to_out, WrotePart-to_err, WrotePart-fewer}
+use Rattle.comb_io.proofs.Written.{Wrote-nil, Wrote-append, Wrote-to_err, WrotePart-append, WrotePart-after, WrotePart-to_err, WrotePart-fewer}
 use Rattle.combstruct_cli.specs.declared.fault.Fault.{Fault}
 use Rattle.combstruct_cli.specs.declared.fault.Fault.TheVariants as fault
 use Rattle.combstruct_cli.specs.declared.run.Outcome.{Outcome}
 use Rattle.combstruct_cli.specs.declared.run.Outcome.TheVariants.{Done, Refused}
 use Rattle.combstruct_cli.specs.declared.run.Status.{Status}
 use Rattle.combstruct_cli.specs.declared.run.Status.TheVariants as status
-use Rattle.combstruct_cli.specs.declared.refusal.Refusal.{Refusal}
-use Rattle.combstruct_cli.specs.Refusals.{refusal_line}
-use Rattle.combstruct_cli.specs.Answer.{Effect, Answer, AnswersScript, writing, refusing, followed_by}
+use Rattle.session.specs.declared.refusal.Refusal.{Refusal}
+use Rattle.session.specs.Refusals.{refusal_line}
+use Rattle.combstruct_cli.specs.Answer.{Part, Answer, AnswersScript, telling, followed_by}
 use Rattle.combstruct_cli.specs.Outcome.{outcome_of, either, unwritten_by, fault_status, end_status, Makes, Ends, Gives, NoneRises, Blames, HasRunCause, HasStatusCause, DidNotRise}
 use Rattle.combstruct_cli.proofs.AnswerLemmas.{status-done, status-refused}
 
@@ -26,7 +26,7 @@ either-outcome_of : (first second : Bool) → either (outcome_of first) (outcome
 either-outcome_of true second = refl
 either-outcome_of false second = refl
 
-module _ (out mid out' err mid_err err' : Option (List ℕ)) (first second : Effect) (outcome : Outcome) (made : Makes out mid err mid_err first (Ok outcome)) where
+module _ (out mid out' err mid_err err' : Option (List ℕ)) (first second : Part) (outcome : Outcome) (made : Makes out mid err mid_err first (Ok outcome)) where
   -- a fault in the second part
   pub Makes-second : (whose : Fault) → Makes mid out' mid_err err' second (Err whose) → Makes out out' err err' (followed_by first second) (Err whose)
   Makes-second whose part = WrotePart-after made.0 part
@@ -38,30 +38,21 @@ module _ (out mid out' err mid_err err' : Option (List ℕ)) (first second : Eff
 
 module _ (out out' err err' : Option (List ℕ)) where
   -- a fault in the first part ends both
-  pub Makes-first : (first second : Effect) (whose : Fault) → Makes out out' err err' first (Err whose) → Makes out out' err err' (followed_by first second) (Err whose)
+  pub Makes-first : (first second : Part) (whose : Fault) → Makes out out' err err' first (Err whose) → Makes out out' err err' (followed_by first second) (Err whose)
   Makes-first first second whose part = WrotePart-append second.writes part
 
-  -- a text was written whole
-  pub Makes-wrote : (text listed : List ℕ) → Appends out out' text → text ≡ listed → Makes out out' err err (writing listed) (Ok Done)
-  Makes-wrote text listed grown is = (Wrote-to_out out out' err listed (subst (Appends out out') is grown), refl)
-
-  -- and a part of it
-  pub Makes-wrote-part : (text listed : List ℕ) (whose : Fault) → AppendsProperPrefix out out' text → text ≡ listed → Makes out out' err err (writing listed) (Err whose)
-  Makes-wrote-part text listed whose part is =
-      WrotePart-fewer (at_most_one whose) (WrotePart-to_out out out' err listed (subst (AppendsProperPrefix out out') is part))
-
   -- a refusal was told whole
-  pub Makes-refused : (text : List ℕ) (line : ℕ) (why : Refusal) → Appends err err' text → text ≡ refusal_line line why → Makes out out err err' (refusing line why) (Ok Refused)
+  pub Makes-refused : (text : List ℕ) (line : ℕ) (why : Refusal) → Appends err err' text → text ≡ refusal_line line why → Makes out out err err' (telling line why) (Ok Refused)
   Makes-refused text line why grown is = (Wrote-to_err out err err' (refusal_line line why) (subst (Appends err err') is grown), refl)
 
   -- and in part
-  pub Makes-refused-part : (text : List ℕ) (line : ℕ) (why : Refusal) (whose : Fault) → AppendsProperPrefix err err' text → text ≡ refusal_line line why → Makes out out err err' (refusing line why) (Err whose)
+  pub Makes-refused-part : (text : List ℕ) (line : ℕ) (why : Refusal) (whose : Fault) → AppendsProperPrefix err err' text → text ≡ refusal_line line why → Makes out out err err' (telling line why) (Err whose)
   Makes-refused-part text line why whose part is =
       WrotePart-fewer (at_most_one whose) (WrotePart-to_err out err err' (refusal_line line why) (subst (AppendsProperPrefix err err') is part))
 
-  -- the same effect under another name
-  pub Makes-same : (one other : Effect) (result : Result Outcome Fault) → one ≡ other → Makes out out' err err' one result → Makes out out' err err' other result
-  Makes-same one other result same made = let P : Effect → Type 0 = λ e. Makes out out' err err' e result in subst P same made
+  -- the same part under another name
+  pub Makes-same : (one other : Part) (result : Result Outcome Fault) → one ≡ other → Makes out out' err err' one result → Makes out out' err err' other result
+  Makes-same one other result same made = let P : Part → Type 0 = λ e. Makes out out' err err' e result in subst P same made
 
 module _ (out out' err err' : Option (List ℕ)) (given : List ℕ) (answer : Answer) (runs : AnswersScript given answer) where
   wrote-answer : Wrote out out' err err' runs.whole.writes → Wrote out out' err err' answer.writes
@@ -91,7 +82,7 @@ HasRunCause-after input mid input' out mid_out out' err mid_err err' ended same 
     subst R same.2 (subst Q same.1 (subst P same.0 cause))
 
 -- where the outputs can't be to blame, nothing was written
-pub Makes-nothing : (out err : Option (List ℕ)) (input input' : ℕ) (whole : Effect) (whose : Fault) → ((o e : ℕ) → Blames input input' o o e e whose) → Makes out out err err whole (Err whose)
+pub Makes-nothing : (out err : Option (List ℕ)) (input input' : ℕ) (whole : Part) (whose : Fault) → ((o e : ℕ) → Blames input input' o o e e whose) → Makes out out err err whole (Err whose)
 Makes-nothing out err input input' whole fault.Input blames = record { count = 0; within = omega arith; wrote = Wrote-nil out err }
 Makes-nothing out err input input' whole fault.Output blames = let rises = (blames 0 0).1 in absurd (omega (arith, rises.rose))
 Makes-nothing out err input input' whole fault.Errors blames = let rises = (blames 0 0).2 in absurd (omega (arith, rises.rose))

@@ -1,105 +1,53 @@
 -- The answer to words and a script: what is written to the two outputs, and the status.
-use Rattle.std.specs.Prelude.{◌≡◌, ◌⊎◌, ℕ, ◌+◌, ◌<◌, ◌≤◌, Bool, true, false, ◌||◌, nat_lt, List, [], ◌∷◌, ◌++◌, length, take, drop, slice_range, codes, Option, Some, None, Result, Ok, Err, if◌then◌else◌}
-use Rattle.spec_syntax.specs.declared.statement.Universe.{Universe}
-use Rattle.spec_syntax.specs.declared.statement.RulesRef.{RulesRef}
-use Rattle.spec_syntax.specs.declared.statement.RulesRef.TheVariants as rules_ref
-use Rattle.spec_syntax.specs.declared.statement.ClassRef.{ClassRef}
-use Rattle.spec_syntax.specs.declared.statement.ClassRef.TheVariants as class_ref
-use Rattle.spec_syntax.specs.declared.statement.Job.{Job}
-use Rattle.spec_syntax.specs.declared.statement.Job.TheVariants as job
-use Rattle.spec_syntax.specs.declared.statement.Form.{Form}
-use Rattle.spec_syntax.specs.declared.statement.Form.TheVariants as form
+use Rattle.std.specs.Prelude.{◌≡◌, ℕ, ◌+◌, Bool, true, false, ◌||◌, nat_le, nat_lt, is_some, List, [], ◌∷◌, ◌++◌, length, take, slice_range, codes, Option, Some, Result, Ok, Err, if◌then◌else◌}
+use Rattle.std.specs.List.{filter}
 use Rattle.spec_syntax.specs.declared.statement.Statement.{Statement}
-use Rattle.spec_syntax.specs.Expression.{Name}
-use Rattle.spec_syntax.specs.Grammar as syntax
 use Rattle.spec_reader.specs.declared.place.Place.{Place}
 use Rattle.spec_reader.specs.declared.refusal.Which.TheVariants as which
 use Rattle.spec_reader.specs.declared.refusal.ReadRefused.{ReadRefused}
-use Rattle.spec_reader.specs.Cutting.{first_piece_of}
+use Rattle.spec_reader.specs.declared.refusal.ReadRefused.TheVariants as read
+use Rattle.spec_reader.specs.Cutting.{pieces}
 use Rattle.spec_reader.specs.Places.{place_behind}
 use Rattle.spec_reader.specs.Reading.{Answers}
-use Rattle.struct_model.specs.Structure.{parts_of}
-use Rattle.struct_model.specs.Membership.{supply}
-use Rattle.struct_model.specs.Bounded.{listing}
-use Rattle.struct_model.specs.Text.{maple_parts}
-use Rattle.well_founded.specs.declared.refused.Refused.{Refused}
-use Rattle.well_founded.specs.WellFounded.{Checks}
-use Rattle.comb_io.specs.Writes.{Write, to_out, to_err}
-use Rattle.combstruct_cli.specs.declared.refusal.Refusal.{Refusal}
-use Rattle.combstruct_cli.specs.declared.refusal.Refusal.TheVariants as refusal
+use Rattle.comb_io.specs.Writes.{Write, to_err}
+use Rattle.session.specs.declared.texts.TextForm.{TextForm}
+use Rattle.session.specs.declared.texts.TextForm.TheVariants.{Maple}
+use Rattle.session.specs.declared.refusal.Refusal.{Refusal}
+use Rattle.session.specs.declared.refusal.Refusal.TheVariants as refusal
+use Rattle.session.specs.Refusals.{refusal_line}
+use Rattle.session.specs.Effect.{State, first_state, Effect, Setting, refusing, StatementDoes}
 use Rattle.combstruct_cli.specs.declared.run.Status.{Status}
 use Rattle.combstruct_cli.specs.declared.run.Status.TheVariants as status
-use Rattle.combstruct_cli.specs.Refusals.{refusal_line, refusal_of_reading, refusal_of_check}
 
--- what a part of a script does: its writes, and whether it is refused
-pub record Effect : Type 0 where
+-- ---- parts of a script
+
+-- what a part of a script does: its writes, and whether something in it is refused
+pub record Part : Type 0 where
   pub writes : List Write
   pub is_refused : Bool
 
-abbrev pub nothing : Effect
+-- it does nothing
+abbrev pub nothing : Part
 nothing = record { writes = []; is_refused = false }
 
-abbrev pub writing : List ℕ → Effect
-writing text = record { writes = to_out text; is_refused = false }
+-- one piece, by its effect
+abbrev pub part_of : Effect → Part
+part_of effect = record { writes = effect.writes; is_refused = is_some effect.refused }
 
-abbrev pub refusing : ℕ → Refusal → Effect
-refusing line why = record { writes = to_err (refusal_line line why); is_refused = true }
+-- a line of a refusal
+abbrev pub telling : ℕ → Refusal → Part
+telling line why = record { writes = to_err (refusal_line line why); is_refused = true }
 
 -- one after the other
-abbrev pub followed_by : Effect → Effect → Effect
+abbrev pub followed_by : Part → Part → Part
 followed_by first second = record { writes = first.writes ++ second.writes; is_refused = first.is_refused || second.is_refused }
 
--- a refusal is told in this line; want of memory has no effect that could be stated
-abbrev pub Refuses : ℕ → Option Refusal → Effect → Type 0
-Refuses line (Some why) whole = whole ≡ refusing line why
-Refuses line None whole = ⊥
+-- ---- the pieces of a script
 
--- the texts of the structures of a class of a size, in brackets
-abbrev pub listing_text : syntax.Grammar → List ℕ → ℕ → List ℕ
-listing_text g symbol size = codes "[" ++ maple_parts g.rules (parts_of (listing g (Name symbol) (supply g.universe size))) ++ codes "]\n"
-
--- `allstructs` of a class at a size does this, in a statement that begins in this line, where the check says this of the class
-abbrev pub CheckedListingDoes : Option Refused → syntax.Grammar → List ℕ → ℕ → ℕ → Effect → Type 0
-CheckedListingDoes None g symbol size line whole = whole ≡ writing (listing_text g symbol size)
-CheckedListingDoes (Some refused) g symbol size line whole = Refuses line (refusal_of_check refused) whole
-
--- `allstructs` of a class at a size does this, in a statement that begins in this line
-pub record ListingDoes (g : syntax.Grammar) (symbol : List ℕ) (size line : ℕ) (whole : Effect) : Type 0 where
-  pub said : Option Refused
-  pub checks : Checks g (Some symbol) said
-  pub does : CheckedListingDoes said g symbol size line whole
-
-abbrev pub ListingOfRulesDoes : List ℕ → RulesRef → Universe → ℕ → ℕ → Effect → Type 0
-ListingOfRulesDoes symbol (rules_ref.Written rules) universe size line whole = ListingDoes (record { rules = rules; universe = universe }) symbol size line whole
-ListingOfRulesDoes symbol (rules_ref.Bound name) universe size line whole = ⊥
-
-abbrev pub ListingOfClassDoes : ClassRef → ℕ → ℕ → Effect → Type 0
-ListingOfClassDoes (class_ref.Written symbol rules universe) size line whole = ListingOfRulesDoes symbol rules universe size line whole
-ListingOfClassDoes (class_ref.Bound name) size line whole = ⊥
-
-abbrev pub ListingOfJobDoes : Job → ℕ → Effect → Type 0
-ListingOfJobDoes (job.Grammar class size) line whole = ListingOfClassDoes class size line whole
-ListingOfJobDoes (job.Ready family over size) line whole = ⊥
-
--- a statement that begins in this line does this. What isn't in force is never read, so no effect is stated of it
-abbrev pub StatementDoes : Form → ℕ → Effect → Type 0
-StatementDoes form.Empty line whole = whole ≡ nothing
-StatementDoes (form.Rules name rules) line whole = ⊥
-StatementDoes (form.Class name class) line whole = ⊥
-StatementDoes (form.Iterate name work cursor) line whole = ⊥
-StatementDoes (form.Count work) line whole = ⊥
-StatementDoes (form.List work) line whole = ListingOfJobDoes work line whole
-StatementDoes (form.Draw work) line whole = ⊥
-StatementDoes (form.Next name) line whole = ⊥
-StatementDoes (form.Finished name) line whole = ⊥
-StatementDoes (form.Cursor name) line whole = ⊥
-StatementDoes (form.Rest name) line whole = ⊥
-StatementDoes (form.Equations rules universe variable) line whole = ⊥
-
--- a piece that begins in this line does this, as it reads
-abbrev pub PieceDoes : Result Statement ReadRefused → ℕ → Effect → Type 0
-PieceDoes (Ok statement) line whole = StatementDoes statement.form line whole
-PieceDoes (Err why) line whole = Refuses line (refusal_of_reading why) whole
+-- the piece, which begins in this line, does this as it reads, to a session that keeps this
+abbrev pub PieceDoes : Result Statement ReadRefused → ℕ → TextForm → State → Effect → Type 0
+PieceDoes (Ok statement) line texts state effect = StatementDoes statement line texts state effect
+PieceDoes (Err why) line texts state effect = effect ≡ refusing (record { is_quiet = false; line = line; state = state }) (refusal.Read why)
 
 abbrev pub first_place : Place
 first_place = record { line = 1; column = 1 }
@@ -108,46 +56,36 @@ first_place = record { line = 1; column = 1 }
 abbrev pub place_in : List ℕ → ℕ → Place
 place_in script at = place_behind first_place (take at script)
 
+-- the piece from a place of the script to another does this to a session that keeps this
+pub record RunsPiece (script : List ℕ) (piece : ℕ × ℕ) (texts : TextForm) (state : State) (effect : Effect) : Type 0 where
+  pub reading : Result Statement ReadRefused
+  pub reads : Answers (place_in script piece.0) (slice_range script piece.0 piece.1) reading
+  pub does : PieceDoes reading (place_in script piece.0).line texts state effect
+
 -- the most bytes of a script
 abbrev pub most_bytes : ℕ
 most_bytes = 16777216
 
-abbrev pub refusing_syntax : Place → Effect
-refusing_syntax place = refusing place.line (refusal.Syntax place.line place.column)
-
 -- a script of too many bytes is refused in the line of the first byte that is too many
-abbrev pub refusing_long : List ℕ → Effect
-refusing_long script = if nat_lt most_bytes (length script) then refusing (place_in script most_bytes).line (refusal.Limit which.Script) else nothing
+abbrev pub refusing_long : List ℕ → Part
+refusing_long script = if nat_lt most_bytes (length script) then telling (place_in script most_bytes).line (refusal.Read (read.Limit which.Script)) else nothing
 
--- a second piece that begins at this place is refused there, where that is early enough
-abbrev pub refusing_second : List ℕ → ℕ → Effect
-refusing_second script at = if nat_lt at most_bytes then refusing_syntax (place_in script at) else refusing_long script
+-- these pieces of the script do this one after another, each to what the one before leaves; then a script that is too long is refused
+abbrev pub RunsPieces : List ℕ → List (ℕ × ℕ) → TextForm → State → Part → Type 0
+RunsPieces script [] texts state whole = whole ≡ refusing_long script
+RunsPieces script (piece ∷ later) texts state whole =
+    (effect : Effect) × (rest : Part) × RunsPiece script piece texts state effect × RunsPieces script later texts effect.next rest
+    × (whole ≡ followed_by (part_of effect) rest)
 
-abbrev pub refusing_rest : List ℕ → ℕ → Option (ℕ × ℕ) → Effect
-refusing_rest script end None = refusing_long script
-refusing_rest script end (Some piece) = refusing_second script (end + piece.0)
+-- does the piece end within the most bytes
+abbrev pub is_early : ℕ × ℕ → Bool
+is_early piece = nat_le piece.1 most_bytes
 
--- what follows the first piece, which ends at this place
-abbrev pub effect_after : List ℕ → ℕ → Effect
-effect_after script end = refusing_rest script end (first_piece_of (drop end script))
+-- what a script does: its pieces that end early enough. Of one with too many bytes one byte more than the most is looked at
+abbrev pub Runs : List ℕ → Part → Type 0
+Runs script whole = RunsPieces (take (most_bytes + 1) script) (filter is_early (pieces (take (most_bytes + 1) script))) Maple first_state whole
 
--- the effect of the piece from `start` to `end`, and then of what follows it
-pub record RunsPiece (script : List ℕ) (start end : ℕ) (whole : Effect) : Type 0 where
-  pub reading : Result Statement ReadRefused
-  pub reads : Answers (place_in script start) (slice_range script start end) reading
-  pub first : Effect
-  pub first_does : PieceDoes reading (place_in script start).line first
-  pub does : whole ≡ followed_by first (effect_after script end)
-
--- the first piece is run where it ends early enough
-abbrev pub RunsFirst : List ℕ → Option (ℕ × ℕ) → Effect → Type 0
-RunsFirst script None whole = whole ≡ refusing_long script
-RunsFirst script (Some piece) whole =
-    ((piece.1 ≤ most_bytes) × RunsPiece script piece.0 piece.1 whole) ⊎ ((most_bytes < piece.1) × (whole ≡ refusing_long script))
-
--- the effect of a script. Of one with too many bytes one byte more than the most is looked at
-abbrev pub Runs : List ℕ → Effect → Type 0
-Runs script whole = RunsFirst (take (most_bytes + 1) script) (first_piece_of (take (most_bytes + 1) script)) whole
+-- ---- answers
 
 abbrev pub usage : List ℕ
 usage = codes "usage: combstruct [--form=maple|tagged] [--seed=N | --bits=HEX] [--sample=N] [FILE]\n"
@@ -165,9 +103,9 @@ status_of false = status.Well
 abbrev pub usage_answer : Answer
 usage_answer = record { writes = to_err usage; status = status.Words }
 
--- what is answered to a script without words: its effect
+-- what is answered to a script without words: what it does
 pub record AnswersScript (script : List ℕ) (answer : Answer) : Type 0 where
-  pub whole : Effect
+  pub whole : Part
   pub runs : Runs script whole
   pub writes : answer.writes ≡ whole.writes
   pub status : answer.status ≡ status_of whole.is_refused

@@ -1,7 +1,5 @@
 pub mod Input
-pub mod Refusals
 pub mod Outcome
-pub mod Columns
-pub mod NodeListing
 pub mod Answer
+pub mod Steps
 pub mod Laws

@@ -1,21 +1,20 @@
 -- How a run and its parts end: what was written by then, and whose count of faults rose.
 use Rattle.std.specs.Prelude.{◌≡◌, ℕ, ◌≤◌, ◌⊎◌, Bool, true, false, List, Option, Result, Ok, Err}
-use Rattle.comb_io.specs.Faults.{Rose}
+use Rattle.comb_io.specs.Faults.{Rose, Rises}
 use Rattle.comb_io.specs.Writes.{Wrote, WrotePart, WrotePrefix, WroteProperPrefix}
+use Rattle.session.specs.declared.fault.SessionFault.{SessionFault}
+use Rattle.session.specs.declared.fault.SessionFault.TheVariants as session_fault
+use Rattle.session.specs.declared.fault.Outcome.{Outcome as SessionOutcome}
+use Rattle.session.specs.declared.fault.Outcome.TheVariants as session_outcome
 use Rattle.combstruct_cli.specs.declared.fault.Fault.{Fault}
 use Rattle.combstruct_cli.specs.declared.fault.Fault.TheVariants as fault
 use Rattle.combstruct_cli.specs.declared.run.Outcome.{Outcome}
 use Rattle.combstruct_cli.specs.declared.run.Outcome.TheVariants.{Done, Refused}
 use Rattle.combstruct_cli.specs.declared.run.Status.{Status}
 use Rattle.combstruct_cli.specs.declared.run.Status.TheVariants as status
-use Rattle.combstruct_cli.specs.Answer.{Effect, Answer}
+use Rattle.combstruct_cli.specs.Answer.{Part, Answer}
 
 -- ---- whose fault it was
-
--- the count of faults of an object rose or stands at the last value of its counter, and isn't lower than before
-pub record Rises (before now : ℕ) : Type 0 where
-  pub later : before ≤ now
-  pub rose : Rose before now
 
 -- the counts of faults of the source, of the output and of the error output are as they were
 abbrev pub NoneRises : ℕ → ℕ → ℕ → ℕ → ℕ → ℕ → Type 0
@@ -32,6 +31,12 @@ Blames input input' out out' err err' fault.Memory = NoneRises input input' out 
 abbrev pub HasRunCause : {A : Type 0} → ℕ → ℕ → ℕ → ℕ → ℕ → ℕ → Result A Fault → Type 0
 HasRunCause input input' out out' err err' (Ok _) = NoneRises input input' out out' err err'
 HasRunCause input input' out out' err err' (Err whose) = Blames input input' out out' err err' whose
+
+-- whose fault ends a run where a statement ends with one
+abbrev pub fault_of : SessionFault → Fault
+fault_of session_fault.Out = fault.Output
+fault_of session_fault.Err = fault.Errors
+fault_of session_fault.Memory = fault.Memory
 
 abbrev pub fault_status : Fault → Status
 fault_status fault.Input = status.Input
@@ -73,6 +78,11 @@ abbrev pub outcome_of : Bool → Outcome
 outcome_of true = Refused
 outcome_of false = Done
 
+-- was a statement refused, as a session tells it
+abbrev pub ran_of : SessionOutcome → Outcome
+ran_of session_outcome.Done = Done
+ran_of (session_outcome.Refused number) = Refused
+
 -- was one of two parts refused
 abbrev pub either : Outcome → Outcome → Outcome
 either Done other = other
@@ -85,10 +95,10 @@ unwritten_by fault.Output = 1
 unwritten_by fault.Errors = 1
 unwritten_by fault.Memory = 0
 
--- an effect was made: whole, and told so, or a part of its writes from their front, and not all where a sink failed
-abbrev pub Makes : Option (List ℕ) → Option (List ℕ) → Option (List ℕ) → Option (List ℕ) → Effect → Result Outcome Fault → Type 0
-Makes out out' err err' e (Ok outcome) = Wrote out out' err err' e.writes × (outcome ≡ outcome_of e.is_refused)
-Makes out out' err err' e (Err whose) = WrotePart (unwritten_by whose) out out' err err' e.writes
+-- a part of a script was run: whole, and told so, or its writes were made from their front on, and not all where a sink failed
+abbrev pub Makes : Option (List ℕ) → Option (List ℕ) → Option (List ℕ) → Option (List ℕ) → Part → Result Outcome Fault → Type 0
+Makes out out' err err' whole (Ok outcome) = Wrote out out' err err' whole.writes × (outcome ≡ outcome_of whole.is_refused)
+Makes out out' err err' whole (Err whose) = WrotePart (unwritten_by whose) out out' err err' whole.writes
 
 -- a run ended with this status: at 0, 1 and 2 the answer was written whole and has this status, at 4 not whole, and at 3
 -- and 5 a part of it from its front

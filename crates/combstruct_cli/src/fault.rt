@@ -1,5 +1,9 @@
 //! Whose fault it is that a run ends before its script does.
+ghost use Rattle.std.specs.Prelude.{◌≡◌};
+ghost use Rattle.combstruct_cli.specs.Outcome.{fault_of};
+
 use comb_io::Failed;
+use session::SessionFault;
 use std::alloc::AllocError;
 
 /// Why a run ends before its script does: whose fault it is.
@@ -34,5 +38,18 @@ impl From<AllocError> for Fault {
 
     fn from(_: AllocError) -> Fault {
         Fault::Memory
+    }
+}
+
+impl Fault {
+    /// Whose fault it is where a statement ends with one.
+    pub(crate) fn of_step(fault: SessionFault) -> Fault
+        ensures { result ≡ fault_of fault }
+    {
+        match fault {
+            SessionFault::Out => Fault::Output,
+            SessionFault::Err => Fault::Errors,
+            SessionFault::Memory => Fault::Memory,
+        }
     }
 }

@@ -9,16 +9,9 @@ ghost use Rattle.comb_io.specs.Faults.{Rose};
 ghost use Rattle.combstruct_cli.specs.Answer.{usage_answer};
 ghost use Rattle.combstruct_cli.specs.Outcome.{DidNotRise, Ends, Gives, HasStatusCause, status_code};
 
-mod column;
-mod components;
 mod fault;
 mod input;
-mod list;
-mod refusal;
-mod relabel;
 mod run;
-mod sequence;
-mod text;
 
 use comb_io::{Sink, StdSink, StdSource, SureShelf};
 use run::{Status, refuse_words, run};

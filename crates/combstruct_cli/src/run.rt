@@ -1,32 +1,28 @@
 //! A run: words and a script go in, and the answer goes out.
-ghost use Rattle.std.specs.Prelude.{Result, Ok, Err, None, ◌≡◌, ◌⊎◌, ◌≢◌, ℕ, ◌+◌, ◌≤◌, ◌<◌, ◌++◌, [], List, Option, Some, length, take, slice_range, codes, replicate, IsTrue, IfOk, OnOk, OnErr};
+ghost use Rattle.std.specs.Prelude.{Result, Ok, Err, None, ◌≡◌, ◌⊎◌, ◌≢◌, ℕ, ◌+◌, ◌≤◌, ◌<◌, [], List, Option, Some, length, take, IsTrue, IfOk, IfSome, OnOk};
+ghost use Rattle.std.specs.List.{filter};
 ghost use Rattle.comb_io.specs.Faults.{Rose};
 ghost use Rattle.spec_syntax.specs.declared.statement.Statement.{Statement};
 ghost use Rattle.spec_reader.specs.declared.refusal.ReadRefused.{ReadRefused};
-ghost use Rattle.spec_reader.specs.Cutting.{begins_piece, first_piece_of};
-ghost use Rattle.spec_reader.specs.Places.{place_behind};
+ghost use Rattle.spec_reader.specs.Cutting.{begins_piece, pieces};
 ghost use Rattle.spec_reader.specs.Reading.{Answers};
 ghost use Rattle.spec_reader.specs.Laws.{FormIsInForce, FormKeeps, FormIsSmall, FormHasSequences};
-ghost use Rattle.struct_model.specs.Structure.{parts_of};
-ghost use Rattle.struct_model.specs.Text.{maple_parts};
-ghost use Rattle.spec_syntax.specs.Rules.{is_spec, are_sequences, symbol as symbol_of};
-ghost use Rattle.well_founded.specs.Checked.{grammar as grammar_of};
-ghost use Rattle.combstruct_cli.specs.NodeListing.{listing_of_rule};
-ghost use Rattle.combstruct_cli.specs.Answer.{Effect, Answer, writing, refusing, refusing_long, listing_text, ListingDoes, StatementDoes, PieceDoes, Refuses, effect_after, refusing_second, RunsPiece, RunsFirst, Runs, IsAnswer, most_bytes, usage_answer};
-ghost use Rattle.combstruct_cli.specs.Outcome.{HasRunCause, HasStatusCause, end_status, Makes, Ends, Gives, DidNotRise, either};
+ghost use Rattle.session.specs.declared.texts.TextForm.TheVariants.{Maple};
+ghost use Rattle.session.specs.Refusals.{IsTold};
+ghost use Rattle.session.specs.Effect.{Effect, first_state, StatementDoes};
+ghost use Rattle.combstruct_cli.specs.Answer.{Part, Answer, part_of, telling, place_in, refusing_long, PieceDoes, RunsPieces, is_early, Runs, IsAnswer, most_bytes, usage_answer};
+ghost use Rattle.combstruct_cli.specs.Outcome.{HasRunCause, HasStatusCause, end_status, ran_of, Makes, Ends, Gives, DidNotRise, either};
+ghost use Rattle.combstruct_cli.specs.Steps.{early_behind, RunsNext};
 ghost use Rattle.combstruct_cli.specs.Input.{IsSpent, TookOver, TookWithin};
 ghost use Rattle.combstruct_cli.specs.Laws.{SomeAnswer, OneAnswer};
 
 use crate::fault::Fault;
 use crate::input::{MOST_BYTES, read_script};
-use crate::list::list_rule;
-use crate::refusal::{Refusal, push_refusal};
-use crate::text::push_parts;
 use comb_io::{Shelf, Sink, SinkFault, Source, write_all};
-use spec_reader::{Place, Which, behind, first_piece, read_statement};
-use spec_syntax::{Bytes, ClassRef, Form, Job, Name, RulesRef, Spec, Statement, Universe};
-use std::alloc::{AllocError, Global};
-use well_founded::{Grammar, check};
+use session::{Refusal, Session, refusal_line};
+use spec_reader::{Place, ReadRefused, Which, behind, first_piece, read_statement};
+use spec_syntax::{Bytes, Statement};
+use std::alloc::Global;
 
 #[cfg(test)]
 mod tests;
@@ -48,7 +44,7 @@ pub enum Status {
     Memory = 5,
 }
 
-/// Whether a piece was refused.
+/// Whether a piece, or another part of a script, was refused.
 #[derive(Clone, Copy, PartialEq, Eq, Debug)]
 enum Outcome {
     Done,
@@ -56,6 +52,16 @@ enum Outcome {
 }
 
 impl Outcome {
+    /// Whether a statement was refused, as a session tells it.
+    fn of_step(outcome: session::Outcome) -> Outcome
+        ensures { result ≡ ran_of outcome }
+    {
+        match outcome {
+            session::Outcome::Done => Outcome::Done,
+            session::Outcome::Refused(_) => Outcome::Refused,
+        }
+    }
+
     /// Whether one of two parts was refused.
     fn or(self, other: Outcome) -> Outcome
         ensures { result ≡ either self other }
@@ -74,32 +80,17 @@ const USAGE: &str =
 /// Where a script begins.
 const START: Place = Place { line: 1, column: 1 };
 
-/// The line that answers an `allstructs` statement: the texts of the structures of rule number `sym` in brackets.
-fn listing_line(alloc: Global, grammar: &Grammar, sym: u32, size: u32) -> Result<Bytes, AllocError>
-    requires sequences { IsTrue (are_sequences grammar.now.rules) }
-    requires low { 1 ≤ sym }
-    requires high { sym ≤ length grammar.now.rules }
-    requires size { size ≤ 1000 }
-    ensures { IfOk result (λ text. text ≡ codes "[" ++ maple_parts grammar.now.rules (parts_of (listing_of_rule grammar.now sym size)) ++ codes "]\n") }
-{
-    let spec = grammar.spec();
-    let list = list_rule(alloc, grammar, sym, size)?;
-    let mut text = Bytes::new(alloc);
-    text.extend_from_slice(b"[")?;
-    push_parts(spec, &list, &mut text)?;
-    text.extend_from_slice(b"]\n")?;
-    Ok(text)
-}
-
-/// Where the byte at `at` of a script stands.
-fn place_of(script: &[u8], at: usize) -> Place
-    requires within { at ≤ length script.now }
-    requires bound { at ≤ MOST_BYTES }
-    ensures value { result ≡ place_behind START (take at script.now) }
+/// Where the byte at `to` of a script stands, by the place of an earlier one, or the same, at `at`.
+fn place_further(script: &[u8], at: usize, to: usize, place: Place) -> Place
+    requires order { at ≤ to }
+    requires within { to ≤ length script.now }
+    requires bound { to ≤ MOST_BYTES }
+    requires placed { place ≡ place_in script.now at }
+    ensures value { result ≡ place_in script.now to }
     ensures line { (1 ≤ result.line) × (result.line ≤ 16777217) }
     ensures column { (1 ≤ result.column) × (result.column ≤ 16777217) }
 {
-    behind(START, &script[..at])
+    behind(place, &script[at..to])
 }
 
 /// Writes the line that tells a refusal.
@@ -109,12 +100,13 @@ fn refuse<E: Sink>(
     refusal: &Refusal,
     err: &mut E,
 ) -> Result<Outcome, Fault>
+    requires { IsTold refusal.now }
     ensures cause { (input out : ℕ) → HasRunCause input input out out (E.faults err.old) (E.faults err.new) result }
-    ensures makes { (out : Option (List ℕ)) → Makes out out (E.written err.old) (E.written err.new) (refusing line refusal.now) result }
+    ensures makes { (out : Option (List ℕ)) → Makes out out (E.written err.old) (E.written err.new) (telling line refusal.now) result }
     ensures refused { IfOk result (λ outcome. outcome ≡ Outcome.Refused) }
 {
     let mut text = Bytes::new(alloc);
-    push_refusal(line, refusal, &mut text)?;
+    refusal_line(alloc, line, refusal, &mut text)?;
     match write_all(err, text.as_slice()) {
         Ok(()) => Ok(Outcome::Refused),
         Err(SinkFault::Failed) => Err(Fault::Errors),
@@ -122,172 +114,134 @@ fn refuse<E: Sink>(
     }
 }
 
-/// Writes the line that tells a refusal where there is one, and answers want of memory where there is none.
-fn refuse_unless_memory<E: Sink>(
+/// Writes the line that tells why a piece isn't read, and answers want of memory where that is why.
+fn refuse_reading<E: Sink>(
     alloc: Global,
     line: u32,
-    refusal: Option<Refusal>,
+    refused: ReadRefused,
     err: &mut E,
 ) -> Result<Outcome, Fault>
     ensures cause { (input out : ℕ) → HasRunCause input input out out (E.faults err.old) (E.faults err.new) result }
-    ensures memory { refusal ≡ None → (whole : Effect) (out : Option (List ℕ))
+    ensures memory { refused ≡ ReadRefused.Memory → (whole : Part) (out : Option (List ℕ))
         → Makes out out (E.written err.old) (E.written err.new) whole result }
-    ensures makes { (whole : Effect) → Refuses line refusal whole → (out : Option (List ℕ))
-        → Makes out out (E.written err.old) (E.written err.new) whole result }
+    ensures makes { refused ≢ ReadRefused.Memory → (out : Option (List ℕ))
+        → Makes out out (E.written err.old) (E.written err.new) (telling line (Refusal.Read refused)) result }
+    ensures told { OnOk result (refused ≢ ReadRefused.Memory) }
 {
-    match refusal {
-        Some(refusal) => refuse(alloc, line, &refusal, err),
-        None => Err(Fault::Memory),
+    match refused {
+        ReadRefused::Memory => Err(Fault::Memory),
+        ReadRefused::Syntax(_, _)
+        | ReadRefused::DuplicateRule(_)
+        | ReadRefused::Limit(_)
+        | ReadRefused::NotText => refuse(alloc, line, &Refusal::Read(refused), err),
     }
 }
 
-/// Writes the line of the listing of a checked class at a size.
-fn write_listing<O: Sink>(
-    alloc: Global,
-    grammar: &Grammar,
-    size: u32,
-    out: &mut O,
-) -> Result<Outcome, Fault>
-    requires sequences { IsTrue (are_sequences grammar.now.rules) }
-    requires size { size ≤ 1000 }
-    ensures cause { (input err : ℕ) → HasRunCause input input (O.faults out.old) (O.faults out.new) err err result }
-    ensures makes { (symbol : List ℕ) (err : Option (List ℕ)) → grammar.now.start ≡ symbol_of grammar.now.rules symbol → grammar.now.start ≢ None
-        → Makes (O.written out.old) (O.written out.new) err err (writing (listing_text (grammar_of grammar.now) symbol size)) result }
-{
-    let Some(sym) = grammar.start() else {
-        return Ok(Outcome::Done);
-    };
-    let text = listing_line(alloc, grammar, sym, size)?;
-    match write_all(out, text.as_slice()) {
-        Ok(()) => Ok(Outcome::Done),
-        Err(SinkFault::Failed) => Err(Fault::Output),
-        Err(SinkFault::Memory) => Err(Fault::Memory),
-    }
-}
-
-/// Runs an `allstructs` statement of a class at a size.
-fn run_listing<O: Sink, E: Sink>(
-    alloc: Global,
-    symbol: &Name,
-    spec: &Spec,
-    universe: Universe,
-    size: u32,
-    line: u32,
-    out: &mut O,
-    err: &mut E,
-) -> Result<Outcome, Fault>
-    requires spec { IsTrue (is_spec spec.now) }
-    requires sequences { IsTrue (are_sequences spec.now) }
-    requires size { size ≤ 1000 }
-    ensures cause { (input : ℕ) → HasRunCause input input (O.faults out.old) (O.faults out.new) (E.faults err.old) (E.faults err.new) result }
-    ensures makes { (whole : Effect) → ListingDoes (record { rules = spec.now; universe = universe }) symbol.now size line whole
-        → Makes (O.written out.old) (O.written out.new) (E.written err.old) (E.written err.new) whole result }
-{
-    match check(alloc, spec, Some(symbol), universe) {
-        Ok(grammar) => write_listing(alloc, &grammar, size, out),
-        Err(refused) => refuse_unless_memory(alloc, line, Refusal::of_check(refused), err),
-    }
-}
-
-/// Runs a statement, which begins in this line.
+/// Runs a statement that was read, which begins in this line.
 fn run_statement<O: Sink, E: Sink>(
     alloc: Global,
-    statement: &Statement,
+    session: &mut Session,
+    statement: Statement,
     line: u32,
     out: &mut O,
     err: &mut E,
 ) -> Result<Outcome, Fault>
-    requires in_force { FormIsInForce statement.now.form }
-    requires sequences { FormHasSequences statement.now.form }
-    requires small { FormIsSmall statement.now.form }
-    requires keeps { FormKeeps statement.now.form }
+    requires live { IsTrue session.old.is_live }
+    requires in_force { FormIsInForce statement.form }
+    requires sequences { FormHasSequences statement.form }
+    requires small { FormIsSmall statement.form }
+    requires keeps { FormKeeps statement.form }
     ensures cause { (input : ℕ) → HasRunCause input input (O.faults out.old) (O.faults out.new) (E.faults err.old) (E.faults err.new) result }
-    ensures makes { (whole : Effect) → StatementDoes statement.now.form line whole
-        → Makes (O.written out.old) (O.written out.new) (E.written err.old) (E.written err.new) whole result }
+    ensures makes { (effect : Effect) → StatementDoes statement line session.old.texts session.old.state effect
+        → Makes (O.written out.old) (O.written out.new) (E.written err.old) (E.written err.new) (part_of effect) result }
+    ensures state { (effect : Effect) → StatementDoes statement line session.old.texts session.old.state effect
+        → OnOk result (session.new.state ≡ effect.next) }
+    ensures live { OnOk result (IsTrue session.new.is_live) }
+    ensures texts { session.new.texts ≡ session.old.texts }
 {
-    match &statement.form {
-        Form::Empty => Ok(Outcome::Done),
-        Form::List(
-            Job::Grammar(ClassRef::Written(symbol, RulesRef::Written(spec), universe), size),
-        ) => run_listing(alloc, symbol, spec, *universe, *size, line, out, err),
-        Form::List(
-            Job::Grammar(ClassRef::Written(_, RulesRef::Bound(_), _) | ClassRef::Bound(_), _)
-            | Job::Ready(_, _, _),
-        )
-        | Form::Rules(_, _)
-        | Form::Class(_, _)
-        | Form::Iterate(_, _, _)
-        | Form::Count(_)
-        | Form::Draw(_)
-        | Form::Next(_)
-        | Form::Finished(_)
-        | Form::Cursor(_)
-        | Form::Rest(_)
-        | Form::Equations(_, _, _) => unreachable!(),
+    match session.step(alloc, statement, line, out, err) {
+        Ok(outcome) => Ok(Outcome::of_step(outcome)),
+        Err(fault) => Err(Fault::of_step(fault)),
     }
 }
 
 /// Reads and runs the piece, which begins at this place.
 fn run_piece<O: Sink, E: Sink>(
     alloc: Global,
+    session: &mut Session,
     piece: &[u8],
     place: Place,
     out: &mut O,
     err: &mut E,
 ) -> Result<Outcome, Fault>
+    requires live { IsTrue session.old.is_live }
     requires begins { IsTrue (begins_piece piece.now) }
     requires line_low { 1 ≤ place.line }
     requires line_high { place.line ≤ 16777217 }
     requires column_low { 1 ≤ place.column }
     requires column_high { place.column ≤ 16777217 }
     ensures cause { (input : ℕ) → HasRunCause input input (O.faults out.old) (O.faults out.new) (E.faults err.old) (E.faults err.new) result }
-    ensures makes { (reading : Result Statement ReadRefused) (whole : Effect) → Answers place piece.now reading → PieceDoes reading place.line whole
-        → Makes (O.written out.old) (O.written out.new) (E.written err.old) (E.written err.new) whole result }
+    ensures makes { (reading : Result Statement ReadRefused) (effect : Effect) → Answers place piece.now reading
+        → PieceDoes reading place.line session.old.texts session.old.state effect
+        → Makes (O.written out.old) (O.written out.new) (E.written err.old) (E.written err.new) (part_of effect) result }
+    ensures state { (reading : Result Statement ReadRefused) (effect : Effect) → Answers place piece.now reading
+        → PieceDoes reading place.line session.old.texts session.old.state effect → OnOk result (session.new.state ≡ effect.next) }
+    ensures live { OnOk result (IsTrue session.new.is_live) }
+    ensures texts { session.new.texts ≡ session.old.texts }
 {
     match read_statement(alloc, piece, place.line, place.column) {
-        Ok(statement) => run_statement(alloc, &statement, place.line, out, err),
-        Err(refused) => refuse_unless_memory(alloc, place.line, Refusal::of_reading(refused), err),
+        Ok(statement) => run_statement(alloc, session, statement, place.line, out, err),
+        Err(refused) => refuse_reading(alloc, place.line, refused, err),
     }
 }
 
-/// Refuses what follows the first piece: a second piece, or a script that is too long.
-fn run_rest<E: Sink>(
-    alloc: Global,
-    script: &[u8],
-    end: usize,
-    err: &mut E,
-) -> Result<Outcome, Fault>
-    requires within { end ≤ length script.now }
-    requires bound { length script.now ≤ MOST_BYTES + 1 }
-    ensures cause { (input out : ℕ) → HasRunCause input input out out (E.faults err.old) (E.faults err.new) result }
-    ensures makes { (out : Option (List ℕ)) → Makes out out (E.written err.old) (E.written err.new) (effect_after script.now end) result }
-    ensures done { result ≡ Ok Outcome.Done → length script.now ≤ MOST_BYTES }
-{
-    match first_piece(&script[end..]) {
-        None => refuse_long(alloc, script, err),
-        Some((gap, _)) => refuse_second(alloc, script, end + gap, err),
-    }
+/// A piece that was run: how it ended, the place after its last byte in the script, and where the byte there stands.
+#[derive(Clone, Copy)]
+struct Ran {
+    outcome: Outcome,
+    at: usize,
+    place: Place,
 }
 
-/// Refuses a second piece, which begins at this place, or a script that is too long.
-fn refuse_second<E: Sink>(
+/// Runs the first piece after a place of the script, if there is one that ends early enough. The byte there stands at `place`.
+fn run_next<O: Sink, E: Sink>(
     alloc: Global,
+    session: &mut Session,
     script: &[u8],
     at: usize,
+    place: Place,
+    out: &mut O,
     err: &mut E,
-) -> Result<Outcome, Fault>
+) -> Result<Option<Ran>, Fault>
+    requires live { IsTrue session.old.is_live }
     requires within { at ≤ length script.now }
-    requires bound { length script.now ≤ MOST_BYTES + 1 }
-    ensures cause { (input out : ℕ) → HasRunCause input input out out (E.faults err.old) (E.faults err.new) result }
-    ensures makes { (out : Option (List ℕ)) → Makes out out (E.written err.old) (E.written err.new) (refusing_second script.now at) result }
-    ensures done { result ≡ Ok Outcome.Done → length script.now ≤ MOST_BYTES }
+    requires bound { at ≤ MOST_BYTES }
+    requires placed { place ≡ place_in script.now at }
+    ensures cause { (input : ℕ) → HasRunCause input input (O.faults out.old) (O.faults out.new) (E.faults err.old) (E.faults err.new) result }
+    ensures makes { (whole : Part) → RunsPieces script.now (early_behind script.now at) session.old.texts session.old.state whole
+        → RunsNext script.now session.new.texts session.new.state (O.written out.old) (O.written out.new) (E.written err.old) (E.written err.new) whole result }
+    ensures live { OnOk result (IsTrue session.new.is_live) }
+    ensures later { IfOk result (λ ran. IfSome ran (λ ran. at < ran.at)) }
+    ensures within { IfOk result (λ ran. IfSome ran (λ ran. ran.at ≤ length script.now)) }
+    ensures bound { IfOk result (λ ran. IfSome ran (λ ran. ran.at ≤ MOST_BYTES)) }
+    ensures placed { IfOk result (λ ran. IfSome ran (λ ran. ran.place ≡ place_in script.now ran.at)) }
 {
-    if at >= MOST_BYTES {
-        return refuse_long(alloc, script, err);
+    let Some((gap, length)) = first_piece(&script[at..]) else {
+        return Ok(None);
+    };
+    let (start, end) = (at + gap, at + length);
+    if end > MOST_BYTES {
+        return Ok(None);
     }
-    let place = place_of(script, at);
-    let refusal = Refusal::Syntax(place.line, place.column);
-    refuse(alloc, place.line, &refusal, err)
+    let begins = place_further(script, at, start, place);
+    match run_piece(alloc, session, &script[start..end], begins, out, err) {
+        Ok(outcome) => Ok(Some(Ran {
+            outcome,
+            at: end,
+            place: place_further(script, start, end, begins),
+        })),
+        Err(fault) => Err(fault),
+    }
 }
 
 /// Refuses a script that is too long, with the line of the first byte that is too many.
@@ -300,39 +254,12 @@ fn refuse_long<E: Sink>(alloc: Global, script: &[u8], err: &mut E) -> Result<Out
     if script.len() <= MOST_BYTES {
         return Ok(Outcome::Done);
     }
-    let place = place_of(script, MOST_BYTES);
-    refuse(alloc, place.line, &Refusal::Limit(Which::Script), err)
+    let place = place_further(script, 0, MOST_BYTES, START);
+    let refusal = Refusal::Read(ReadRefused::Limit(Which::Script));
+    refuse(alloc, place.line, &refusal, err)
 }
 
-/// Runs the first piece of a script, from `start` to `end`, and refuses what follows it.
-fn run_first<O: Sink, E: Sink>(
-    alloc: Global,
-    script: &[u8],
-    start: usize,
-    end: usize,
-    out: &mut O,
-    err: &mut E,
-) -> Result<Outcome, Fault>
-    requires bound { length script.now ≤ MOST_BYTES + 1 }
-    requires piece { (start < end) × (end ≤ length script.now) × (end ≤ MOST_BYTES) }
-    requires begins { IsTrue (begins_piece (slice_range script.now start end)) }
-    ensures cause { (input : ℕ) → HasRunCause input input (O.faults out.old) (O.faults out.new) (E.faults err.old) (E.faults err.new) result }
-    ensures makes { (whole : Effect) → RunsPiece script.now start end whole
-        → Makes (O.written out.old) (O.written out.new) (E.written err.old) (E.written err.new) whole result }
-    ensures done { result ≡ Ok Outcome.Done → length script.now ≤ MOST_BYTES }
-{
-    let place = place_of(script, start);
-    let outcome = match run_piece(alloc, &script[start..end], place, out, err) {
-        Ok(outcome) => outcome,
-        Err(fault) => return Err(fault),
-    };
-    match run_rest(alloc, script, end, err) {
-        Ok(rest) => Ok(outcome.or(rest)),
-        Err(fault) => Err(fault),
-    }
-}
-
-/// Runs a script, of which one byte more than a script may have is enough.
+/// Runs the pieces of a script that end early enough, of which one byte more than a script may have is enough.
 fn run_script<O: Sink, E: Sink>(
     alloc: Global,
     script: &[u8],
@@ -341,17 +268,29 @@ fn run_script<O: Sink, E: Sink>(
 ) -> Result<Outcome, Fault>
     requires { length script.now ≤ MOST_BYTES + 1 }
     ensures cause { (input : ℕ) → HasRunCause input input (O.faults out.old) (O.faults out.new) (E.faults err.old) (E.faults err.new) result }
-    ensures makes { (whole : Effect) → RunsFirst script.now (first_piece_of script.now) whole
+    ensures makes { (whole : Part) → RunsPieces script.now (filter is_early (pieces script.now)) Maple first_state whole
         → Makes (O.written out.old) (O.written out.new) (E.written err.old) (E.written err.new) whole result }
     ensures done { result ≡ Ok Outcome.Done → length script.now ≤ MOST_BYTES }
 {
-    let Some((start, end)) = first_piece(script) else {
-        return refuse_long(alloc, script, err);
-    };
-    if end > MOST_BYTES {
-        return refuse_long(alloc, script, err);
+    let mut session = Session::new(alloc)?;
+    let mut outcome = Outcome::Done;
+    let mut at = 0;
+    let mut place = START;
+    loop {
+        match run_next(alloc, &mut session, script, at, place, out, err) {
+            Ok(Some(ran)) => {
+                outcome = outcome.or(ran.outcome);
+                at = ran.at;
+                place = ran.place;
+            }
+            Ok(None) => break,
+            Err(fault) => return Err(fault),
+        }
     }
-    run_first(alloc, script, start, end, out, err)
+    match refuse_long(alloc, script, err) {
+        Ok(ended) => Ok(outcome.or(ended)),
+        Err(fault) => Err(fault),
+    }
 }
 
 /// Takes the script that `input` gives, and runs it.
@@ -362,7 +301,7 @@ fn run_input<S: Source, O: Sink, E: Sink>(
     err: &mut E,
 ) -> Result<Outcome, Fault>
     ensures cause { HasRunCause (S.faults input.old) (S.faults input.new) (O.faults out.old) (O.faults out.new) (E.faults err.old) (E.faults err.new) result }
-    ensures makes { (given : List ℕ) → S.left input.old ≡ Some given → (whole : Effect) → Runs given whole
+    ensures makes { (given : List ℕ) → S.left input.old ≡ Some given → (whole : Part) → Runs given whole
         → Makes (O.written out.old) (O.written out.new) (E.written err.old) (E.written err.new) whole result }
     ensures untouched { result ≡ Err Fault.Input → (out.new ≡ out.old) × (err.new ≡ err.old) }
     ensures front { TookWithin (most_bytes + 1) (S.left input.old) (S.left input.new) }

@@ -1,8 +1,11 @@
 use Rattle.std.proofs.Common.{◌≡◌, ◌≤◌, ◌+◌, List, ℕ, Result, length, take, sym, subst, ◌∙◌, arith}
-use Rattle.spec_reader.specs.Cutting.{first_piece_of}
+use Rattle.std.specs.List.{filter}
+use Rattle.spec_reader.specs.Cutting.{pieces}
+use Rattle.session.specs.declared.texts.TextForm.TheVariants.{Maple}
+use Rattle.session.specs.Effect.{first_state}
 use Rattle.combstruct_cli.specs.declared.fault.Fault.{Fault}
 use Rattle.combstruct_cli.specs.declared.run.Outcome.{Outcome}
-use Rattle.combstruct_cli.specs.Answer.{RunsFirst, most_bytes}
+use Rattle.combstruct_cli.specs.Answer.{RunsPieces, is_early, most_bytes}
 use Rattle.combstruct_cli.specs.Outcome.{HasRunCause}
 use Rattle.combstruct_cli.proofs.AnswerLemmas.{taken_whole}
 use Rattle.combstruct_cli.proofs.RunLemmas.{HasRunCause-after, Makes-nothing}
@@ -14,7 +17,7 @@ returns-in-Ok-clause-makes g c =
     let script : List ℕ = c.in-Ok.script.items in
     let counts = c.in-Ok.script.ok.0 in
     let taken : script ≡ take (most_bytes + 1) given = taken_whole most_bytes given script _ _ told c.in-Ok.ensures.taken (λ short. c.in-Ok.ensures.end (subst (λ n. n ≤ most_bytes) (sym counts) short)) (subst (λ n. n ≤ most_bytes + 1) counts c.in-Ok.ensures.bound) in
-    c.run_script.ensures.makes whole (subst (λ (script : List ℕ). RunsFirst script (first_piece_of script) whole) (sym (c.deref.ensures.value ∙ taken)) runs)
+    c.run_script.ensures.makes whole (subst (λ (script : List ℕ). RunsPieces script (filter is_early (pieces script)) Maple first_state whole) (sym (c.deref.ensures.value ∙ taken)) runs)
 
 pub returns-in-Ok-clause-cause : goal.returns-in-Ok-clause-cause
 returns-in-Ok-clause-cause g c =
