@@ -2,6 +2,7 @@ pub mod SplitLaws
 pub mod SplitSupplies
 pub mod Selections
 pub mod SplitsListed
+pub mod LengthLemmas
 pub mod NextPart
 pub mod PartLemmas
 pub mod ZeroParts

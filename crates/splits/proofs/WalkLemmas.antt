@@ -1,5 +1,5 @@
 -- The first part, the next part and what remains, at supplies of the code.
-use Rattle.std.proofs.Common.{◌≡◌, ◌⊎◌, ℕ, ◌+◌, ◌-◌, ◌<◌, ◌≤◌, true, List, [], ◌∷◌, take, length, replicate, Option, Some, None, refl, sym, ap, ◌∙◌, subst, inl, inr, arith}
+use Rattle.std.proofs.Common.{◌≡◌, ℕ, ◌+◌, ◌-◌, ◌<◌, ◌≤◌, Bool, true, List, [], ◌∷◌, take, length, replicate, Option, Some, None, IfSome, refl, sym, ap, ◌∙◌, subst, arith}
 use Rattle.std.proofs.lemmas.List.{length-replicate, length-take-le}
 use Rattle.spec_syntax.specs.declared.statement.Universe.TheVariants.{Labelled}
 use Rattle.struct_model.specs.declared.supplies.Supply.{Supply}
@@ -11,112 +11,115 @@ use Rattle.lists.proofs.Ascending.{Rises}
 use Rattle.lists.proofs.AscendingAbove.{rises_above}
 use Rattle.struct_model.proofs.SupplyLaws.{in_order_is, supply_rises}
 use Rattle.splits.specs.Splits.{Split, splits}
-use Rattle.splits.specs.Parts.{parts, after, from_part, IsPart}
+use Rattle.splits.specs.Parts.{parts_of, after, from_part, IsPart}
+use Rattle.splits.specs.Lengths.{is_admitted, IsLeastFrom}
 use Rattle.splits.specs.WalkView.{given_labels, to_come, IsToCome}
 use Rattle.splits.proofs.SplitLaws.{splits_are}
 use Rattle.splits.proofs.SplitSupplies.{split_supplies}
 use Rattle.splits.proofs.Selections.{Selects, selects_front, selects_length, front_is_least, split_selects}
 use Rattle.splits.proofs.NextPart.{Fits, Follows}
-use Rattle.splits.proofs.PartLemmas.{part_split, part_fits, part_in, split_in, part_within, fitting_part, parts_ascend, after_is, head_is, from_first_part, no_parts}
-use Rattle.splits.proofs.ZeroParts.{zeros_only, zeros_split, zeros_ahead, zeros_next, zeros_last, no_zeros}
+use Rattle.splits.proofs.PartLemmas.{fit, fit_admitted, part_split, part_fits, part_in, split_in, part_within, fitting_part, parts_ascend, after_is, head_is, from_first_part, no_parts}
+use Rattle.splits.proofs.ZeroParts.{zeros_only, zeros_split, zeros_ahead, fits_long, zeros_next, zeros_last, no_zeros}
 
 rises : (supply : Supply) → is_in_order supply ≡ true → Rises (supply_labels supply)
 rises supply h = supply_rises (supply_universe supply) (supply_labels supply) (in_order_is supply h)
 
 -- a part of zeros
-zeros_part : (low high n k : ℕ) → low ≤ k → k ≤ high → k ≤ n → IsPart (replicate k 0) (parts low high (replicate n 0))
-zeros_part low high n k enough within there =
-    part_in (parts low high (replicate n 0)) (record { part = replicate k 0; rest = replicate (n - k) 0 })
-    (split_in low high (replicate n 0) (record { part = replicate k 0; rest = replicate (n - k) 0 }) (zeros_split k (n - k) n (omega arith))
-    (omega (arith, length-replicate {A = ℕ} k 0)) (omega (arith, length-replicate {A = ℕ} k 0)))
+zeros_part : (lengths : List Bool) (n k : ℕ) → is_admitted lengths k ≡ true → k ≤ n → IsPart (replicate k 0) (parts_of lengths (replicate n 0))
+zeros_part lengths n k is there =
+    part_in (parts_of lengths (replicate n 0)) (record { part = replicate k 0; rest = replicate (n - k) 0 })
+    (split_in lengths (replicate n 0) (record { part = replicate k 0; rest = replicate (n - k) 0 }) (zeros_split k (n - k) n (omega arith))
+    (subst (λ (m : ℕ). is_admitted lengths m ≡ true) (sym (length-replicate {A = ℕ} k 0)) is))
 
 -- the part of zeros is told by its length
-zeros_told : (low high n : ℕ) (part : List ℕ) → IsPart part (parts low high (replicate n 0)) → part ≡ replicate (length part) 0
-zeros_told low high n part there = zeros_only n part (part_fits low high (replicate n 0) part there).selects
+zeros_told : (lengths : List Bool) (n : ℕ) (part : List ℕ) → IsPart part (parts_of lengths (replicate n 0)) → part ≡ replicate (length part) 0
+zeros_told lengths n part there = zeros_only n part (part_fits lengths (replicate n 0) part there).selects
 
 -- ---- the first part
 
-pub no_first : (supply : Supply) (low high : ℕ) → (high < low) ⊎ (length (supply_labels supply) < low) → to_come supply low high None ≡ parts low high (supply_labels supply)
-no_first supply low high (inl crossed) = sym (no_parts low high (supply_labels supply) (λ other f. omega (arith, f.enough, f.within)))
-no_first supply low high (inr short) =
-    sym (no_parts low high (supply_labels supply) (λ other f. omega (arith, f.enough, selects_length other (supply_labels supply) f.selects)))
+pub no_first : (supply : Supply) (lengths : List Bool) → IsLeastFrom lengths 0 None → to_come supply lengths None ≡ parts_of lengths (supply_labels supply)
+no_first supply lengths l =
+    sym (no_parts lengths (supply_labels supply) (λ other f. l (length other) (omega arith) (fit_admitted lengths (supply_labels supply) other f)))
 
-module _ (supply : Supply) (low high n : ℕ) (is : supply ≡ Zeros n) (order : low ≤ high) (room : low ≤ length (supply_labels supply)) where
-  there : low ≤ n
+pub short_first : (supply : Supply) (lengths : List Bool) (least : ℕ) → IsLeastFrom lengths 0 (Some least) → length (supply_labels supply) < least
+    → to_come supply lengths None ≡ parts_of lengths (supply_labels supply)
+short_first supply lengths least l short =
+    sym (no_parts lengths (supply_labels supply) (λ other f.
+    omega (arith, fits_long lengths 0 least (supply_labels supply) other f (omega arith) l, selects_length other (supply_labels supply) f.selects)))
+
+module _ (supply : Supply) (lengths : List Bool) (least n : ℕ) (is : supply ≡ Zeros n) (l : IsLeastFrom lengths 0 (Some least)) (room : least ≤ length (supply_labels supply)) where
+  there : least ≤ n
   there = omega (arith, ap (λ (s : Supply). length (supply_labels s)) is, length-replicate {A = ℕ} n 0)
 
-  pub first_zeros : to_come supply low high (Some (Zeros low)) ≡ parts low high (supply_labels supply)
+  pub first_zeros : to_come supply lengths (Some (Zeros least)) ≡ parts_of lengths (supply_labels supply)
   first_zeros =
-      subst (λ (s : Supply). to_come s low high (Some (Zeros low)) ≡ parts low high (supply_labels s)) (sym is)
-      (from_first_part low high (replicate n 0) (replicate low 0) (λ other f before. omega (arith, f.enough, zeros_ahead low high n low other f before)))
+      subst (λ (s : Supply). to_come s lengths (Some (Zeros least)) ≡ parts_of lengths (supply_labels s)) (sym is)
+      (from_first_part lengths (replicate n 0) (replicate least 0) (λ other f before.
+      omega (arith, fits_long lengths 0 least (replicate n 0) other f (omega arith) l, zeros_ahead lengths n least other f before)))
 
-  pub first_zeros_part : IsToCome supply low high (Some (Zeros low))
-  first_zeros_part = subst (λ (s : Supply). IsToCome s low high (Some (Zeros low))) (sym is) (refl, refl, zeros_part low high n low (omega arith) order there)
+  pub first_zeros_part : IsToCome supply lengths (Some (Zeros least))
+  first_zeros_part = subst (λ (s : Supply). IsToCome s lengths (Some (Zeros least))) (sym is) (refl, refl, zeros_part lengths n least l.1 there)
 
 -- labels that are a part ascend
-part_ascends : (low high : ℕ) (labels part : List ℕ) → ascends_above 0 labels ≡ true → IsPart part (parts low high labels) → ascends_above 0 part ≡ true
-part_ascends low high labels part h there =
-    let found = part_split part (splits labels) (part_within low high labels part there) in
+part_ascends : (lengths : List Bool) (labels part : List ℕ) → ascends_above 0 labels ≡ true → IsPart part (parts_of lengths labels) → ascends_above 0 part ≡ true
+part_ascends lengths labels part h there =
+    let found = part_split part (splits labels) (part_within lengths labels part there) in
     subst (λ (ns : List ℕ). ascends_above 0 ns ≡ true) (sym found.2)
     (split_supplies Labelled labels h found.0 ((splits_are labels (rises_above 0 labels h)).sound found.0 found.1)).0
 
-module _ (supply : Supply) (low high : ℕ) (labels front : List ℕ) (is : supply ≡ Labels labels) (h : is_in_order supply ≡ true) (order : low ≤ high) (room : low ≤ length (supply_labels supply))
-    (same : front ≡ take low labels) where
+module _ (supply : Supply) (lengths : List Bool) (least : ℕ) (labels front : List ℕ) (is : supply ≡ Labels labels) (h : is_in_order supply ≡ true)
+    (l : IsLeastFrom lengths 0 (Some least)) (room : least ≤ length (supply_labels supply)) (same : front ≡ take least labels) where
   ascending : ascends_above 0 labels ≡ true
   ascending = subst (λ (s : Supply). is_in_order s ≡ true) is h
 
-  long : low ≤ length labels
-  long = subst (λ (s : Supply). low ≤ length (supply_labels s)) is room
+  long : least ≤ length labels
+  long = subst (λ (s : Supply). least ≤ length (supply_labels s)) is room
 
-  fits : Fits low high labels (take low labels)
-  fits = record {
-    selects = selects_front low labels;
-    enough = omega (arith, length-take-le low labels long);
-    within = omega (arith, length-take-le low labels long);
-  }
+  fits : Fits lengths 0 labels (take least labels)
+  fits = fit lengths labels (take least labels) (selects_front least labels) (subst (λ (n : ℕ). is_admitted lengths n ≡ true) (sym (length-take-le least labels long)) l.1)
 
-  pub first_labels : to_come supply low high (Some (Labels front)) ≡ parts low high (supply_labels supply)
+  pub first_labels : to_come supply lengths (Some (Labels front)) ≡ parts_of lengths (supply_labels supply)
   first_labels =
-      subst (λ (s : Supply). to_come s low high (Some (Labels front)) ≡ parts low high (supply_labels s)) (sym is)
-      (subst (λ (ns : List ℕ). from_part (Some ns) (parts low high labels) ≡ parts low high labels) (sym same)
-      (from_first_part low high labels (take low labels) (λ other f before. front_is_least 0 low other labels ascending f.selects f.enough before)))
+      subst (λ (s : Supply). to_come s lengths (Some (Labels front)) ≡ parts_of lengths (supply_labels s)) (sym is)
+      (subst (λ (ns : List ℕ). from_part (Some ns) (parts_of lengths labels) ≡ parts_of lengths labels) (sym same)
+      (from_first_part lengths labels (take least labels) (λ other f before.
+      front_is_least 0 least other labels ascending f.selects (fits_long lengths 0 least labels other f (omega arith) l) before)))
 
-  pub first_labels_part : IsToCome supply low high (Some (Labels front))
+  pub first_labels_part : IsToCome supply lengths (Some (Labels front))
   first_labels_part =
-      let here : IsPart front (parts low high labels) = subst (λ (ns : List ℕ). IsPart ns (parts low high labels)) (sym same) (fitting_part 0 low high labels (take low labels) ascending fits) in
-      subst (λ (s : Supply). IsToCome s low high (Some (Labels front))) (sym is) (part_ascends low high labels front ascending here, refl, here)
+      let here : IsPart front (parts_of lengths labels) = subst (λ (ns : List ℕ). IsPart ns (parts_of lengths labels)) (sym same) (fitting_part 0 lengths labels (take least labels) ascending fits) in
+      subst (λ (s : Supply). IsToCome s lengths (Some (Labels front))) (sym is) (part_ascends lengths labels front ascending here, refl, here)
 
 -- ---- the next part
 
-module _ (supply part : Supply) (low high n taken : ℕ) (is : supply ≡ Zeros n) (told : taken ≡ length (supply_labels part)) (here : IsPart (supply_labels part) (parts low high (supply_labels supply))) where
-  part_here : IsPart (supply_labels part) (parts low high (replicate n 0))
-  part_here = subst (λ (s : Supply). IsPart (supply_labels part) (parts low high (supply_labels s))) is here
+module _ (supply part : Supply) (lengths : List Bool) (n taken : ℕ) (is : supply ≡ Zeros n) (told : taken ≡ length (supply_labels part))
+    (here : IsPart (supply_labels part) (parts_of lengths (supply_labels supply))) where
+  part_here : IsPart (supply_labels part) (parts_of lengths (replicate n 0))
+  part_here = subst (λ (s : Supply). IsPart (supply_labels part) (parts_of lengths (supply_labels s))) is here
 
   part_is : supply_labels part ≡ replicate taken 0
-  part_is = subst (λ (k : ℕ). supply_labels part ≡ replicate k 0) (sym told) (zeros_told low high n (supply_labels part) part_here)
+  part_is = subst (λ (k : ℕ). supply_labels part ≡ replicate k 0) (sym told) (zeros_told lengths n (supply_labels part) part_here)
 
-  many : low ≤ taken
-  many = omega (arith, (part_fits low high (replicate n 0) (supply_labels part) part_here).enough)
-
-  what_follows : (next : Option (List ℕ)) → Follows low high (replicate n 0) (replicate taken 0) next
-      → from_part next (parts low high (replicate n 0)) ≡ after (supply_labels part) (parts low high (replicate n 0))
+  what_follows : (next : Option (List ℕ)) → Follows lengths 0 (replicate n 0) (replicate taken 0) next
+      → from_part next (parts_of lengths (replicate n 0)) ≡ after (supply_labels part) (parts_of lengths (replicate n 0))
   what_follows next f =
-      subst (λ (ns : List ℕ). from_part next (parts low high (replicate n 0)) ≡ after ns (parts low high (replicate n 0))) (sym part_is)
-      (after_is low high (replicate n 0) (replicate taken 0) next f)
+      subst (λ (ns : List ℕ). from_part next (parts_of lengths (replicate n 0)) ≡ after ns (parts_of lengths (replicate n 0))) (sym part_is)
+      (after_is lengths (replicate n 0) (replicate taken 0) next f)
 
-  pub later_zeros : taken < n → taken < high → to_come supply low high (Some (Zeros (taken + 1))) ≡ after (supply_labels part) (parts low high (supply_labels supply))
-  later_zeros there within =
-      subst (λ (s : Supply). to_come s low high (Some (Zeros (taken + 1))) ≡ after (supply_labels part) (parts low high (supply_labels s))) (sym is)
-      (what_follows (Some (replicate (taken + 1) 0)) (zeros_next low high n taken many within there))
+  module _ (more : ℕ) (l : IsLeastFrom lengths (taken + 1) (Some more)) (there : more ≤ n) where
+    pub later_zeros : to_come supply lengths (Some (Zeros more)) ≡ after (supply_labels part) (parts_of lengths (supply_labels supply))
+    later_zeros =
+        subst (λ (s : Supply). to_come s lengths (Some (Zeros more)) ≡ after (supply_labels part) (parts_of lengths (supply_labels s))) (sym is)
+        (what_follows (Some (replicate more 0)) (zeros_next lengths n taken more l there))
 
-  pub later_zeros_part : taken < n → taken < high → IsToCome supply low high (Some (Zeros (taken + 1)))
-  later_zeros_part there within =
-      subst (λ (s : Supply). IsToCome s low high (Some (Zeros (taken + 1)))) (sym is) (refl, refl, zeros_part low high n (taken + 1) (omega (arith, many)) (omega arith) (omega arith))
+    pub later_zeros_part : IsToCome supply lengths (Some (Zeros more))
+    later_zeros_part = subst (λ (s : Supply). IsToCome s lengths (Some (Zeros more))) (sym is) (refl, refl, zeros_part lengths n more l.1 there)
 
-  pub no_later_zeros : (high ≤ taken) ⊎ (n ≤ taken) → to_come supply low high None ≡ after (supply_labels part) (parts low high (supply_labels supply))
-  no_later_zeros full =
-      subst (λ (s : Supply). to_come s low high None ≡ after (supply_labels part) (parts low high (supply_labels s))) (sym is)
-      (what_follows None (zeros_last low high n taken full))
+  pub no_later_zeros : (longer : Option ℕ) → IsLeastFrom lengths (taken + 1) longer → IfSome longer (λ more. n < more)
+      → to_come supply lengths None ≡ after (supply_labels part) (parts_of lengths (supply_labels supply))
+  no_later_zeros longer l past =
+      subst (λ (s : Supply). to_come s lengths None ≡ after (supply_labels part) (parts_of lengths (supply_labels s))) (sym is)
+      (what_follows None (zeros_last lengths n taken longer l past))
 
 -- the labels that are given are those of a part of labels
 given_are : (labels : List ℕ) (part : Supply) → ascends_above 0 labels ≡ true → Selects (supply_labels part) labels → given_labels part ≡ supply_labels part
@@ -151,23 +154,23 @@ module _ (supply part : Supply) (labels slice given : List ℕ) (is : supply ≡
     rest_ascends rest found =
         (split_supplies Labelled slice slice_ascends (record { part = given; rest = rest }) ((splits_are slice (rises_above 0 slice slice_ascends)).sound (record { part = given; rest = rest }) found)).1
 
-  module _ (low high : ℕ) (here : IsPart (supply_labels part) (parts low high (supply_labels supply))) where
+  module _ (lengths : List Bool) (here : IsPart (supply_labels part) (parts_of lengths (supply_labels supply))) where
     given_part_is : given ≡ supply_labels part
-    given_part_is = given_is (part_within low high (supply_labels supply) (supply_labels part) here)
+    given_part_is = given_is (part_within lengths (supply_labels supply) (supply_labels part) here)
 
-    pub given_part : IsPart given (parts low high slice)
+    pub given_part : IsPart given (parts_of lengths slice)
     given_part =
-        subst (λ (ns : List ℕ). IsPart ns (parts low high slice)) (sym given_part_is) (subst (λ (ns : List ℕ). IsPart (supply_labels part) (parts low high ns)) slice_is here)
+        subst (λ (ns : List ℕ). IsPart ns (parts_of lengths slice)) (sym given_part_is) (subst (λ (ns : List ℕ). IsPart (supply_labels part) (parts_of lengths ns)) slice_is here)
 
-    pub later_labels : (next : Option (List ℕ)) → from_part next (parts low high slice) ≡ after given (parts low high slice)
-        → from_part next (parts low high (supply_labels supply)) ≡ after (supply_labels part) (parts low high (supply_labels supply))
+    pub later_labels : (next : Option (List ℕ)) → from_part next (parts_of lengths slice) ≡ after given (parts_of lengths slice)
+        → from_part next (parts_of lengths (supply_labels supply)) ≡ after (supply_labels part) (parts_of lengths (supply_labels supply))
     later_labels next later =
-        subst (λ (ns : List ℕ). from_part next (parts low high ns) ≡ after (supply_labels part) (parts low high ns)) (sym slice_is)
-        (subst (λ (ns : List ℕ). from_part next (parts low high slice) ≡ after ns (parts low high slice)) given_part_is later)
+        subst (λ (ns : List ℕ). from_part next (parts_of lengths ns) ≡ after (supply_labels part) (parts_of lengths ns)) (sym slice_is)
+        (subst (λ (ns : List ℕ). from_part next (parts_of lengths slice) ≡ after ns (parts_of lengths slice)) given_part_is later)
 
-    pub later_labels_part : (next : List ℕ) → IsPart next (parts low high slice) → IsToCome supply low high (Some (Labels next))
+    pub later_labels_part : (next : List ℕ) → IsPart next (parts_of lengths slice) → IsToCome supply lengths (Some (Labels next))
     later_labels_part next there =
-        (part_ascends low high slice next slice_ascends there, sym (ap supply_universe is), subst (λ (ns : List ℕ). IsPart next (parts low high ns)) (sym slice_is) there)
+        (part_ascends lengths slice next slice_ascends there, sym (ap supply_universe is), subst (λ (ns : List ℕ). IsPart next (parts_of lengths ns)) (sym slice_is) there)
 
 -- ---- what remains of zeros
 
@@ -191,25 +194,25 @@ module _ (supply part : Supply) (n taken : ℕ) (is : supply ≡ Zeros n) (told 
 -- ---- a step of the walk
 
 -- the coming part is split off, and then the later parts come
-pub step_is : (supply part rest : Supply) (low high : ℕ) (later : Option Supply) → is_in_order supply ≡ true → IsPart (supply_labels part) (parts low high (supply_labels supply))
+pub step_is : (supply part rest : Supply) (lengths : List Bool) (later : Option Supply) → is_in_order supply ≡ true → IsPart (supply_labels part) (parts_of lengths (supply_labels supply))
     → IsIn (record { part = supply_labels part; rest = supply_labels rest }) (splits (supply_labels supply))
-    → to_come supply low high later ≡ after (supply_labels part) (parts low high (supply_labels supply))
-    → to_come supply low high (Some part) ≡ record { part = supply_labels part; rest = supply_labels rest } ∷ to_come supply low high later
-step_is supply part rest low high later h here split later_is =
-    let f = part_fits low high (supply_labels supply) (supply_labels part) here in
-    head_is (record { part = supply_labels part; rest = supply_labels rest }) (parts low high (supply_labels supply)) (parts_ascend low high (supply_labels supply) (rises supply h))
-    (split_in low high (supply_labels supply) (record { part = supply_labels part; rest = supply_labels rest }) split f.enough f.within)
+    → to_come supply lengths later ≡ after (supply_labels part) (parts_of lengths (supply_labels supply))
+    → to_come supply lengths (Some part) ≡ record { part = supply_labels part; rest = supply_labels rest } ∷ to_come supply lengths later
+step_is supply part rest lengths later h here split later_is =
+    head_is (record { part = supply_labels part; rest = supply_labels rest }) (parts_of lengths (supply_labels supply)) (parts_ascend lengths (supply_labels supply) (rises supply h))
+    (split_in lengths (supply_labels supply) (record { part = supply_labels part; rest = supply_labels rest }) split
+    (fit_admitted lengths (supply_labels supply) (supply_labels part) (part_fits lengths (supply_labels supply) (supply_labels part) here)))
     ∙ ap (λ (ss : List Split). record { part = supply_labels part; rest = supply_labels rest } ∷ ss) (sym later_is)
 
 -- the same, where the part that is taken out is the coming one and the later one is put in its place
-pub step_taken : (supply part taken rest : Supply) (low high : ℕ) (coming later put : Option Supply) → coming ≡ Some part → coming ≡ Some taken → put ≡ later
-    → is_in_order supply ≡ true → IsPart (supply_labels part) (parts low high (supply_labels supply))
+pub step_taken : (supply part taken rest : Supply) (lengths : List Bool) (coming later put : Option Supply) → coming ≡ Some part → coming ≡ Some taken → put ≡ later
+    → is_in_order supply ≡ true → IsPart (supply_labels part) (parts_of lengths (supply_labels supply))
     → IsIn (record { part = supply_labels part; rest = supply_labels rest }) (splits (supply_labels supply))
-    → to_come supply low high later ≡ after (supply_labels part) (parts low high (supply_labels supply))
-    → to_come supply low high coming ≡ record { part = supply_labels taken; rest = supply_labels rest } ∷ to_come supply low high put
-step_taken supply part taken rest low high coming later put is got there h here split later_is =
+    → to_come supply lengths later ≡ after (supply_labels part) (parts_of lengths (supply_labels supply))
+    → to_come supply lengths coming ≡ record { part = supply_labels taken; rest = supply_labels rest } ∷ to_come supply lengths put
+step_taken supply part taken rest lengths coming later put is got there h here split later_is =
     let same : part ≡ taken = cc in
-    ap (to_come supply low high) is
-    ∙ subst (λ (p : Supply). to_come supply low high (Some part) ≡ record { part = supply_labels p; rest = supply_labels rest } ∷ to_come supply low high put) same
-    (step_is supply part rest low high later h here split later_is
-    ∙ ap (λ (o : Option Supply). record { part = supply_labels part; rest = supply_labels rest } ∷ to_come supply low high o) (sym there))
+    ap (to_come supply lengths) is
+    ∙ subst (λ (p : Supply). to_come supply lengths (Some part) ≡ record { part = supply_labels p; rest = supply_labels rest } ∷ to_come supply lengths put) same
+    (step_is supply part rest lengths later h here split later_is
+    ∙ ap (λ (o : Option Supply). record { part = supply_labels part; rest = supply_labels rest } ∷ to_come supply lengths o) (sym there))

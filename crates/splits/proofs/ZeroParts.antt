@@ -1,5 +1,5 @@
 -- The parts of zeros: they are told by their number.
-use Rattle.std.proofs.Common.{◌≡◌, ◌⊎◌, ℕ, zero, suc, ◌+◌, ◌<◌, ◌≤◌, true, List, [], ◌∷◌, length, replicate, None, refl, sym, ap, ◌∙◌, subst, inl, inr, arith, Less, nat_cmp}
+use Rattle.std.proofs.Common.{◌≡◌, ℕ, zero, suc, ◌+◌, ◌<◌, ◌≤◌, Bool, true, List, [], ◌∷◌, length, replicate, Option, Some, None, IfSome, refl, sym, ap, ◌∙◌, subst, inl, inr, arith, Less, nat_cmp}
 use Rattle.std.specs.Cmp.Lexicographic.{slice_cmp}
 use Rattle.std.proofs.lemmas.List.{length-replicate}
 use Rattle.lists.specs.Ascending.{ascends_above}
@@ -9,7 +9,9 @@ use Rattle.lists.proofs.Enumerated.{in_map}
 use Rattle.splits.specs.Splits.{taking, splits}
 use Rattle.lists.proofs.NumberOrder.{same_first}
 use Rattle.splits.proofs.Selections.{Selects, selects_length, selects_above}
+use Rattle.splits.specs.Lengths.{is_admitted, IsLeastFrom}
 use Rattle.splits.proofs.NextPart.{Fits, IsNext, Follows}
+use Rattle.splits.proofs.PartLemmas.{fit, fit_admitted}
 
 pub zeros_only : (n : ℕ) (part : List ℕ) → Selects part (replicate n 0) → part ≡ replicate (length part) 0
 zeros_only zero [] s = refl
@@ -42,33 +44,41 @@ fewer_zeros (suc k) zero h = absurd (cc)
 fewer_zeros (suc k) (suc n) h = let less : k < n = fewer_zeros k n (sym (same_first 0 (replicate k 0) (replicate n 0)) ∙ h) in omega arith
 
 -- the number of zeros of a part that fits decides
-pub zeros_after : (low high n k : ℕ) (other : List ℕ) → Fits low high (replicate n 0) other → slice_cmp nat_cmp (replicate k 0) other ≡ Less → k < length other
-zeros_after low high n k other f before =
+pub zeros_after : (lengths : List Bool) (n k : ℕ) (other : List ℕ) → Fits lengths 0 (replicate n 0) other → slice_cmp nat_cmp (replicate k 0) other ≡ Less → k < length other
+zeros_after lengths n k other f before =
     fewer_zeros k (length other) (subst (λ (o : List ℕ). slice_cmp nat_cmp (replicate k 0) o ≡ Less) (zeros_only n other f.selects) before)
 
-pub zeros_ahead : (low high n k : ℕ) (other : List ℕ) → Fits low high (replicate n 0) other → slice_cmp nat_cmp other (replicate k 0) ≡ Less → length other < k
-zeros_ahead low high n k other f before =
+pub zeros_ahead : (lengths : List Bool) (n k : ℕ) (other : List ℕ) → Fits lengths 0 (replicate n 0) other → slice_cmp nat_cmp other (replicate k 0) ≡ Less → length other < k
+zeros_ahead lengths n k other f before =
     fewer_zeros (length other) k (subst (λ (o : List ℕ). slice_cmp nat_cmp o (replicate k 0) ≡ Less) (zeros_only n other f.selects) before)
 
-pub zeros_fit : (low high n k : ℕ) → low ≤ k → k ≤ high → k ≤ n → Fits low high (replicate n 0) (replicate k 0)
-zeros_fit low high n k enough within there = record {
-  selects = zeros_select k n there;
-  enough = omega (arith, length-replicate {A = ℕ} k 0);
-  within = omega (arith, length-replicate {A = ℕ} k 0);
+-- a part that fits is at least as long as the least length that is admitted
+pub fits_long : (lengths : List Bool) (from least : ℕ) (u other : List ℕ) → Fits lengths 0 u other → from ≤ length other → IsLeastFrom lengths from (Some least) → least ≤ length other
+fits_long lengths from least u other f behind l = l.2 (length other) behind (fit_admitted lengths u other f)
+
+-- the zeros of the next admitted length
+pub zeros_next : (lengths : List Bool) (n k more : ℕ) → IsLeastFrom lengths (k + 1) (Some more) → more ≤ n → IsNext lengths 0 (replicate n 0) (replicate k 0) (replicate more 0)
+zeros_next lengths n k more l there = record {
+  fits = fit lengths (replicate n 0) (replicate more 0) (zeros_select more n there)
+      (subst (λ (m : ℕ). is_admitted lengths m ≡ true) (sym (length-replicate {A = ℕ} more 0)) l.1);
+  later = zeros_before k more (omega (arith, l.0));
+  least = λ other f before first. omega (
+    arith,
+    zeros_ahead lengths n more other f first,
+    fits_long lengths (k + 1) more (replicate n 0) other f (omega (arith, zeros_after lengths n k other f before)) l,
+  );
 }
 
--- one zero more
-pub zeros_next : (low high n k : ℕ) → low ≤ k → k < high → k < n → IsNext low high (replicate n 0) (replicate k 0) (replicate (k + 1) 0)
-zeros_next low high n k enough within there = record {
-  fits = zeros_fit low high n (k + 1) (omega arith) (omega arith) (omega arith);
-  later = zeros_before k (k + 1) (omega arith);
-  least = λ other f before first. omega (arith, zeros_after low high n k other f before, zeros_ahead low high n (k + 1) other f first);
-}
-
-pub zeros_last : (low high n k : ℕ) → (high ≤ k) ⊎ (n ≤ k) → Follows low high (replicate n 0) (replicate k 0) None
-zeros_last low high n k (inl full) = λ other f before. omega (arith, zeros_after low high n k other f before, f.within)
-zeros_last low high n k (inr all) =
-    λ other f before. omega (arith, zeros_after low high n k other f before, selects_length other (replicate n 0) f.selects, length-replicate {A = ℕ} n 0)
+pub zeros_last : (lengths : List Bool) (n k : ℕ) (longer : Option ℕ) → IsLeastFrom lengths (k + 1) longer → IfSome longer (λ more. n < more)
+    → Follows lengths 0 (replicate n 0) (replicate k 0) None
+zeros_last lengths n k None l past = λ other f before. l (length other) (omega (arith, zeros_after lengths n k other f before)) (fit_admitted lengths (replicate n 0) other f)
+zeros_last lengths n k (Some more) l past = λ other f before. omega (
+  arith,
+  past,
+  fits_long lengths (k + 1) more (replicate n 0) other f (omega (arith, zeros_after lengths n k other f before)) l,
+  selects_length other (replicate n 0) f.selects,
+  length-replicate {A = ℕ} n 0,
+)
 
 -- no zero is selected from labels above low
 pub no_zeros : (low k : ℕ) (u : List ℕ) → Selects (replicate k 0) u → ascends_above low u ≡ true → k ≡ 0

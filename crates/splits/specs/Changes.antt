@@ -1,7 +1,12 @@
 -- How a part is made of another one.
-use Rattle.std.specs.Prelude.{ℕ, ◌-◌, max, List, ◌++◌, take, drop}
+use Rattle.std.specs.Prelude.{ℕ, ◌-◌, cond, nat_le, List, ◌++◌, take, drop, Option, Some, None}
 use Rattle.splits.specs.declared.labelled.Change.{Change}
 
--- the first labels of a part, and then labels of the supply from the place on: at least one, and enough for low labels
-abbrev pub changed : ℕ → List ℕ → List ℕ → Change → List ℕ
-changed low labels part change = take change.kept part ++ take (max (low - change.kept) 1) (drop change.place labels)
+-- the first labels of a part, and then labels of the supply from the place on
+abbrev pub changed : List ℕ → List ℕ → Change → List ℕ
+changed labels part change = take change.kept part ++ take change.taken (drop change.place labels)
+
+-- the change to a part of the length, where enough of so many labels stand from the place on
+abbrev pub change_to : Option ℕ → ℕ → ℕ → ℕ → Option Change
+change_to None kept place end = None
+change_to (Some length) kept place end = cond (nat_le (length - kept) (end - place)) (Some (record { kept = kept; place = place; taken = length - kept })) None

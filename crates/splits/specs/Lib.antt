@@ -1,4 +1,5 @@
 pub mod Splits
+pub mod Lengths
 pub mod Parts
 pub mod Laws
 pub mod Changes

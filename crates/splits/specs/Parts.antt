@@ -1,10 +1,11 @@
--- The parts of a supply whose length lies within bounds.
+-- The parts of a supply whose length is admitted, or lies within bounds.
 use Rattle.std.specs.Prelude.{ℕ, Bool, not, ◌&&◌, nat_le, List, [], length, map, Option, Some, None}
 use Rattle.std.specs.List.{filter}
 use Rattle.std.specs.Ordering.{nat_cmp, is_lt}
 use Rattle.std.specs.Cmp.Lexicographic.{slice_cmp}
 use Rattle.lists.specs.Enumeration.{IsIn}
 use Rattle.splits.specs.Splits.{Split, splits}
+use Rattle.splits.specs.Lengths.{is_admitted}
 
 -- has the part from low to high labels
 abbrev pub has_length : ℕ → ℕ → Split → Bool
@@ -13,6 +14,14 @@ has_length low high split = nat_le low (length split.part) && nat_le (length spl
 -- the splits of a supply whose part has from low to high labels, in the order of the parts
 abbrev pub parts : ℕ → ℕ → List ℕ → List Split
 parts low high u = filter (has_length low high) (splits u)
+
+-- is the length of the part admitted
+abbrev pub has_admitted : List Bool → Split → Bool
+has_admitted lengths split = is_admitted lengths (length split.part)
+
+-- the splits of a supply whose part has an admitted length, in the order of the parts
+abbrev pub parts_of : List Bool → List ℕ → List Split
+parts_of lengths u = filter (has_admitted lengths) (splits u)
 
 -- do the first labels come before the second ones, label by label, a prefix first
 abbrev pub comes_before : List ℕ → List ℕ → Bool

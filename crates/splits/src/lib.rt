@@ -5,13 +5,18 @@
 #![tactic(auto)]
 
 mod capped;
+mod copies;
 mod labelled;
 mod laws;
+mod length_walk;
+mod lengths;
 mod pascal;
 mod walk;
 
 pub use capped::{plus, times};
+pub use copies::copy_supply;
 pub use laws::{parts_are_listed, splits_are_listed};
+pub use length_walk::LengthWalk;
 pub use pascal::Pascal;
 pub use walk::PartWalk;
 
@@ -30,6 +35,18 @@ mod tests {
         }
         told.push(0)?;
         Ok(())
+    }
+
+    /// Each part that the walk gives and what remains.
+    fn told_by_length(alloc: Global, mut walk: LengthWalk) -> Result<Vec<u32>, AllocError> {
+        let mut told = Vec::new(alloc);
+        for _ in 0..9 {
+            if let Some((part, rest)) = walk.next(alloc)? {
+                tell(&part, &mut told)?;
+                tell(&rest, &mut told)?;
+            }
+        }
+        Ok(told)
     }
 
     /// Each part that the walk gives and what remains.
@@ -83,6 +100,31 @@ mod tests {
             pairs.as_slice(),
             [2, 3, 0, 1, 4, 0, 2, 4, 0, 1, 3, 0, 3, 4, 0, 1, 2, 0].as_slice()
         );
+        Ok(())
+    }
+
+    #[test]
+    fn lengths_with_gaps(rt: HostRuntime) -> Result<(), Fail> {
+        let alloc = rt.alloc();
+        let lengths = Vec::from_slice(alloc, [false, true, false, true].as_slice())?;
+        let zeros = told_by_length(alloc, LengthWalk::first(alloc, Supply::Zeros(4), lengths)?)?;
+        assert_eq!(rt; zeros.as_slice(), [1, 0, 3, 0, 3, 0, 1, 0].as_slice());
+        let supply = Supply::Labels(Labels::from_slice(alloc, [1, 2, 3, 4].as_slice())?);
+        let copied = copy_supply(alloc, &supply)?;
+        let lengths = Vec::from_slice(alloc, [false, true, false, true].as_slice())?;
+        let labels = told_by_length(alloc, LengthWalk::first(alloc, supply, lengths)?)?;
+        assert_eq!(rt;
+            labels.as_slice(),
+            [
+                1, 0, 2, 3, 4, 0, 1, 2, 3, 0, 4, 0, 1, 2, 4, 0, 3, 0, 1, 3, 4, 0, 2, 0, 2, 0, 1, 3,
+                4, 0, 2, 3, 4, 0, 1, 0, 3, 0, 1, 2, 4, 0, 4, 0, 1, 2, 3, 0
+            ]
+            .as_slice()
+        );
+        let part = Supply::Labels(Labels::from_slice(alloc, [2, 4].as_slice())?);
+        let lengths = Vec::from_slice(alloc, [true, false, true].as_slice())?;
+        let later = told_by_length(alloc, LengthWalk::after(alloc, copied, lengths, &part)?)?;
+        assert_eq!(rt; later.as_slice(), [3, 4, 0, 1, 2, 0].as_slice());
         Ok(())
     }
 

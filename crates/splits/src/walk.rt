@@ -1,39 +1,28 @@
-//! A walk over the parts of a supply.
+//! A walk over the parts of a supply whose length lies within bounds.
 ghost use Rattle.std.specs.Prelude.{◌≡◌, [], ◌∷◌, IfOk, OnErr, IfSome, IfNone, IsTrue};
 ghost use Rattle.struct_model.specs.SupplyView.{supply_labels, supply_universe, is_in_order};
-ghost use Rattle.lists.specs.Enumeration.{IsIn};
-ghost use Rattle.splits.specs.Splits.{splits};
 ghost use Rattle.splits.specs.Parts.{parts, after, IsPart};
-ghost use Rattle.splits.specs.WalkView.{given_labels, split_into, to_come, IsToCome};
+ghost use Rattle.splits.specs.WalkView.{split_into};
 
-use crate::labelled::{next_labels, remaining_labels};
+use crate::length_walk::LengthWalk;
+use crate::lengths::lengths_between;
 use std::alloc::{AllocError, Global};
 use std::marker::Model;
-use std::mem;
-use struct_model::{Labels, Supply};
+use struct_model::Supply;
 
 /// A walk over the parts of a supply whose length lies within bounds, in lexicographic order, a prefix first, each with
 /// what remains of the supply. A contract sees the universe of the supply, and the list of those that are still to come.
 #[derive(Drop)]
 pub struct PartWalk {
-    supply: Supply,
-    low: u32,
-    high: u32,
-    coming: Option<Supply>,
+    walk: LengthWalk,
 }
 
 impl Model for PartWalk {
-    ghost use Rattle.std.specs.Prelude.{IsTrue};
     ghost use Rattle.splits.specs.WalkView.{Walk};
 
     ghost Value = { Walk };
 
-    ghost use Rattle.struct_model.specs.SupplyView.{is_in_order};
-    ghost use Rattle.splits.specs.WalkView.{walk_of, IsToCome};
-
-    ghost view = { λ a. walk_of a.supply a.low a.high a.coming };
-
-    ghost invariant = { λ a. IsTrue (is_in_order a.supply) × IsToCome a.supply a.low a.high a.coming };
+    ghost view = { λ a. a.walk };
 }
 
 impl PartWalk {
@@ -47,13 +36,9 @@ impl PartWalk {
         ensures universe { IfOk result (λ walk. walk.universe ≡ supply_universe supply) }
         ensures all { IfOk result (λ walk. walk.left ≡ parts low high (supply_labels supply)) }
     {
-        let coming = first_part(alloc, &supply, low, high)?;
-        Ok(PartWalk {
-            supply,
-            low,
-            high,
-            coming,
-        })
+        let lengths = lengths_between(alloc, low, high, supply.len())?;
+        let walk = LengthWalk::first(alloc, supply, lengths)?;
+        Ok(PartWalk { walk })
     }
 
     /// A walk over those parts that have from `low` to `high` labels and come after `part`, which is one of them.
@@ -74,13 +59,9 @@ impl PartWalk {
         ensures universe { IfOk result (λ walk. walk.universe ≡ supply_universe supply) }
         ensures later { IfOk result (λ walk. walk.left ≡ after (supply_labels part.now) (parts low high (supply_labels supply))) }
     {
-        let coming = next_part(alloc, &supply, part, low, high)?;
-        Ok(PartWalk {
-            supply,
-            low,
-            high,
-            coming,
-        })
+        let lengths = lengths_between(alloc, low, high, supply.len())?;
+        let walk = LengthWalk::after(alloc, supply, lengths, part)?;
+        Ok(PartWalk { walk })
     }
 
     /// The next part and what remains, or None where no part is left.
@@ -99,99 +80,6 @@ impl PartWalk {
         ensures at_end { IfOk result (λ next. IfNone next (self.new.left ≡ [])) }
         ensures err { OnErr result (self.new ≡ self.old) }
     {
-        let Some(part) = &self.coming else {
-            return Ok(None);
-        };
-        let rest = remaining(alloc, &self.supply, part)?;
-        let later = next_part(alloc, &self.supply, part, self.low, self.high)?;
-        let part = mem::replace(&mut self.coming, later).unwrap();
-        Ok(Some((part, rest)))
-    }
-}
-
-/// The labels of a supply of labels, and none of zeros.
-fn given_labels(supply: &Supply) -> &[u32]
-    ensures { result.now ≡ given_labels supply.now }
-{
-    match supply {
-        Supply::Zeros(_) => &[],
-        Supply::Labels(labels) => labels.as_slice(),
-    }
-}
-
-/// The first part that has from `low` to `high` labels, if there is one.
-fn first_part(
-    alloc: Global,
-    supply: &Supply,
-    low: u32,
-    high: u32,
-) -> Result<Option<Supply>, AllocError>
-    requires { IsTrue (is_in_order supply.now) }
-    ensures all { IfOk result (λ coming. to_come supply.now low high coming ≡ parts low high (supply_labels supply.now)) }
-    ensures kept { IfOk result (λ coming. IsToCome supply.now low high coming) }
-{
-    if high < low || supply.len() < low {
-        return Ok(None);
-    }
-    match supply {
-        Supply::Zeros(_) => Ok(Some(Supply::Zeros(low))),
-        Supply::Labels(labels) => {
-            let labels = labels.as_slice();
-            let part = Labels::from_slice(alloc, &labels[..low as usize])?;
-            Ok(Some(Supply::Labels(part)))
-        }
-    }
-}
-
-/// The part that comes next after `part`, if there is one.
-fn next_part(
-    alloc: Global,
-    supply: &Supply,
-    part: &Supply,
-    low: u32,
-    high: u32,
-) -> Result<Option<Supply>, AllocError>
-    requires in_order { IsTrue (is_in_order supply.now) }
-    requires part_in_order { IsTrue (is_in_order part.now) }
-    requires part { IsPart (supply_labels part.now) (parts low high (supply_labels supply.now)) }
-    ensures later { IfOk
-        result
-        (λ coming. to_come supply.now low high coming ≡ after (supply_labels part.now) (parts low high (supply_labels supply.now))) }
-    ensures kept { IfOk result (λ coming. IsToCome supply.now low high coming) }
-{
-    match supply {
-        Supply::Zeros(n) => {
-            let taken = part.len();
-            if taken < *n && taken < high {
-                Ok(Some(Supply::Zeros(taken + 1)))
-            } else {
-                Ok(None)
-            }
-        }
-        Supply::Labels(labels) => {
-            let (low, high) = (low as usize, high as usize);
-            match next_labels(alloc, labels.as_slice(), given_labels(part), low, high)? {
-                Some(next) => Ok(Some(Supply::Labels(next))),
-                None => Ok(None),
-            }
-        }
-    }
-}
-
-/// What remains of the supply without `part`.
-fn remaining(alloc: Global, supply: &Supply, part: &Supply) -> Result<Supply, AllocError>
-    requires in_order { IsTrue (is_in_order supply.now) }
-    requires part_in_order { IsTrue (is_in_order part.now) }
-    requires part { IsPart (supply_labels part.now) (splits (supply_labels supply.now)) }
-    ensures rest { IfOk result (λ rest. IsIn (split_into part.now rest) (splits (supply_labels supply.now))) }
-    ensures in_order { IfOk result (λ rest. IsTrue (is_in_order rest)) }
-    ensures universe { IfOk result (λ rest. supply_universe rest ≡ supply_universe supply.now) }
-{
-    match supply {
-        Supply::Zeros(n) => Ok(Supply::Zeros(*n - part.len())),
-        Supply::Labels(labels) => {
-            let rest = remaining_labels(alloc, labels.as_slice(), given_labels(part))?;
-            Ok(Supply::Labels(rest))
-        }
+        self.walk.next(alloc)
     }
 }

@@ -1,6 +1,6 @@
 -- The zeros that are left, or the labels.
 use Rattle.splits.proofs.WalkLemmas.{given_split, rest_labels, rest_ascends, taken_within, rest_zeros}
-use Rattle.splits.proofs.walk.remaining.Goals as goal
+use Rattle.splits.proofs.length_walk.remaining.Goals as goal
 
 pub overflow_sub-result : goal.overflow_sub-result
 overflow_sub-result c = taken_within c.args.supply.now c.args.part.now c.in-Zeros.n c.len.result c.in-Zeros.is c.len.ensures c.requires.part
