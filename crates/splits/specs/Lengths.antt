@@ -8,4 +8,5 @@ is_admitted lengths n = slice_index_or lengths n false
 -- the length is the least admitted one from a number on, or none from there on is admitted
 abbrev pub IsLeastFrom : List Bool → ℕ → Option ℕ → Type 0
 IsLeastFrom lengths from None = (n : ℕ) → from ≤ n → IsTrue (is_admitted lengths n) → ⊥
-IsLeastFrom lengths from (Some least) = (from ≤ least) × IsTrue (is_admitted lengths least) × ((n : ℕ) → from ≤ n → IsTrue (is_admitted lengths n) → least ≤ n)
+IsLeastFrom lengths from (Some least) =
+    (from ≤ least) × IsTrue (is_admitted lengths least) × ((n : ℕ) → from ≤ n → IsTrue (is_admitted lengths n) → least ≤ n)
