@@ -1,9 +1,9 @@
 -- The counts at a size, filled in by rising rank.
-use Rattle.std.proofs.Common.{◌≡◌, ◌⊎◌, ℕ, zero, suc, ◌+◌, ◌-◌, ◌<◌, ◌≤◌, Bool, true, false, List, [], ◌∷◌, ◌++◌, length, replicate, get_or, Option, Some, None, slice_get, refl, sym, ap, ◌∙◌, subst, inl, inr, arith, IsTrue}
+use Rattle.std.proofs.Common.{◌≡◌, ℕ, ◌+◌, ◌<◌, ◌≤◌, Bool, List, [], ◌∷◌, ◌++◌, length, replicate, Option, Some, None, slice_get, refl, sym, ap, ◌∙◌, subst, inl, inr, arith}
 use Rattle.std.proofs.Math.ListN.{set}
 use Rattle.std.proofs.lemmas.Bool.{cases_lt}
 use Rattle.std.proofs.lemmas.List.{length_push, length-set, length-replicate}
-use Rattle.std.proofs.lemmas.Option.{slice_get_within, slice_get-get_or}
+use Rattle.std.proofs.lemmas.Option.{slice_get_within}
 use Rattle.lists.proofs.Places.{pushed_at}
 use Rattle.spec_syntax.specs.Expression.{Expression}
 use Rattle.spec_syntax.specs.Rules.{all_nodes}
@@ -17,7 +17,7 @@ use Rattle.size_counts.specs.declared.tables.Tables.{Tables}
 use Rattle.size_counts.specs.Told.{TellNow}
 use Rattle.size_counts.specs.Turns.{LongerTold, AreLonger}
 use Rattle.size_counts.proofs.Law.{recur}
-use Rattle.size_counts.proofs.ListLemmas.{tells_by}
+use Rattle.size_counts.proofs.SumLemmas.{set_at, zeros_at}
 
 -- of lower rank, of a least size above m, or of this rank and below node n
 pub record TellSoFar (checked : Checked) (marks : List Bool) (m r n : ℕ) (now : List (Option ℕ)) : Type 0 where
@@ -39,21 +39,6 @@ so_far_pass checked marks m r n now before other = record {
         absurd (other (subst (λ (k : ℕ). IsMarked marks k) same marked) (subst (λ (k : ℕ). slice_get checked.ranks k ≡ Some r) same ranked))
   ];
 }
-
--- what stands in a list after one entry is set
-set_at : {X : Type 0} (xs : List X) (i j : ℕ) (x y : X) → slice_get (set xs i x) j ≡ Some y → ((j ≡ i) × (y ≡ x)) ⊎ ((j ≡ i → ⊥) × (slice_get xs j ≡ Some y))
-set_at [] i j x y at = absurd (none j at)
-  where
-    none : {X : Type 0} {y : X} (j : ℕ) → slice_get [] j ≡ Some y → ⊥
-    none zero at = cc
-    none (suc j) at = cc
-set_at (first ∷ xs) zero zero x y at = let same : y ≡ x = cc in inl (refl, same)
-set_at (first ∷ xs) zero (suc j) x y at = inr ((λ same. omega (arith, same)), at)
-set_at (first ∷ xs) (suc i) zero x y at = inr ((λ same. omega (arith, same)), at)
-set_at (first ∷ xs) (suc i) (suc j) x y at = elim (set_at xs i j x y at) [
-  | inl here ↦ inl (ap suc here.0, here.1)
-  | inr other ↦ inr ((λ same. other.0 (omega (arith, same))), other.1)
-]
 
 -- a node that is filled in
 pub so_far_more : (checked : Checked) (marks : List Bool) (m r n : ℕ) (now : List (Option ℕ)) (one : Option ℕ) → TellSoFar checked marks m r n now
@@ -96,16 +81,10 @@ tell_zeros checked marks m n is_checked same = record {
   for_each = length-replicate n (Some 0) ∙ same;
   each = λ node least rank e told marked at least_is rank_is may there. elim may [
     | inl below ↦ absurd (omega arith)
-    | inr small ↦ subst (λ (o : Option ℕ). Tells o (number (grammar checked) e m)) (sym (all_zero n node told there)) (zero_told e least node at least_is small)
+    | inr small ↦ subst (λ (o : Option ℕ). Tells o (number (grammar checked) e m)) (sym (zeros_at n node told there)) (zero_told e least node at least_is small)
   ];
 }
   where
-    all_zero : (n node : ℕ) (told : Option ℕ) → slice_get (replicate n (Some 0)) node ≡ Some told → told ≡ Some 0
-    all_zero zero zero told there = absurd (cc)
-    all_zero zero (suc node) told there = absurd (cc)
-    all_zero (suc n) zero told there = cc
-    all_zero (suc n) (suc node) told there = all_zero n node told there
-
     zero_told : (e : Expression) (least node : ℕ) → node_at checked.rules node ≡ Some e → slice_get checked.leasts node ≡ Some least → m < least → Tells (Some 0) (number (grammar checked) e m)
     zero_told e least node at least_is small =
         let none : number (grammar checked) e m ≡ 0 =

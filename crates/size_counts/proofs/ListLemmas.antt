@@ -1,8 +1,10 @@
 -- The numbers of lists of one more component.
-use Rattle.std.proofs.Common.{◌≡◌, ◌⊎◌, ℕ, zero, suc, ◌+◌, ◌-◌, ◌*◌, ◌<◌, ◌≤◌, min, Bool, true, List, [], ◌∷◌, ◌++◌, length, map, Option, Some, None, slice_get, unwrap_or, refl, sym, ap, ◌∙◌, subst, inl, inr, arith, IsTrue}
+use Rattle.std.proofs.Common.{◌≡◌, ◌⊎◌, ℕ, suc, ◌+◌, ◌-◌, ◌*◌, ◌<◌, ◌≤◌, min, Bool, List, [], ◌∷◌, length, map, Option, Some, None, slice_get, unwrap_or, sym, ap, ◌∙◌, subst, inl, inr, arith}
 use Rattle.std.specs.List.{range_with_len}
-use Rattle.std.specs.Option.{option_map, option_map_or, option_and_then}
+use Rattle.std.specs.Option.{option_map_or, option_and_then}
 use Rattle.std.proofs.lemmas.Bool.{cases_lt}
+use Rattle.std.proofs.lemmas.Option.{slice_get_within}
+use Rattle.std.proofs.lemmas.List.FromFn.{length-map-range_with_len}
 use Rattle.spec_syntax.specs.declared.expr.Card.{Card}
 use Rattle.spec_syntax.specs.declared.expr.Kind.TheVariants as kind
 use Rattle.spec_syntax.specs.Expression as expr
@@ -13,14 +15,15 @@ use Rattle.spec_syntax.proofs.NodesLemmas.{in_nodes}
 use Rattle.graphs.specs.Graph.{IsMarked}
 use Rattle.struct_model.specs.Bounded.{number}
 use Rattle.well_founded.specs.Checked.{Checked, grammar}
-use Rattle.listing_laws.specs.Numbers.{exactly, joined}
+use Rattle.listing_laws.specs.Numbers.{joined, ways}
 use Rattle.splits.specs.Capped.{Tells}
-use Rattle.size_counts.specs.Tables.{Layer, column}
+use Rattle.size_counts.specs.Tables.{Layer, cell}
 use Rattle.size_counts.specs.Numbers.{numbers_at, list_number, most_components}
 use Rattle.size_counts.specs.Told.{values, AreTold, TellAll}
-use Rattle.size_counts.specs.Sums.{ProductTold, ProductsTold}
+use Rattle.size_counts.specs.Sums.{AddsProduct}
 use Rattle.size_counts.proofs.Law.{recur}
-use Rattle.size_counts.proofs.TableLemmas.{entry_told, last_entry, list_value, no_list_value, tell_made}
+use Rattle.size_counts.proofs.SumLemmas.{AreSummed, summed_none, summed_pass, summed_more, summed_all}
+use Rattle.size_counts.proofs.TableLemmas.{cell_told, list_value, no_list_value, made_at}
 
 -- ---- how many components are looked at
 
@@ -66,56 +69,28 @@ module _ (checked : Checked) (marks : List Bool) (layers : List Layer) (told : A
   pub element_there : (child : ℕ) → node_at checked.rules child ≡ slice_get (arguments_at checked.rules node) 0 → node_at checked.rules child ≡ Some e
   element_there child same = same ∙ ap (λ (found : Option Expression). slice_get (option_map_or arguments_of found []) 0) at
 
-  -- the lists of c components in a column
-  pub list_told : (m c : ℕ) (last : Option ℕ) (d : ℕ) (one : Option ℕ) → 1 ≤ c → c ≤ most_components card m → d < length layers
-      → slice_get (column layers node c ++ last ∷ []) d ≡ Some one → Tells one (list_number (grammar checked) e c d)
-  list_told m c last d one low high below there = by (cases_lt (most_components card d) c)
-    where
-      entry : Tells one (unwrap_or (slice_get (values (numbers_at (grammar checked) (expr.Many kind.Sequence e card) d)) c) 0)
-      entry = entry_told checked marks layers told node (expr.Many kind.Sequence e card) marked at c last d one below there
+  -- the element's count in a layer
+  pub element_told : (child d : ℕ) (layer : Layer) → slice_get (children_at checked.rules node) 0 ≡ Some child → node_at checked.rules child ≡ slice_get (arguments_at checked.rules node) 0
+      → slice_get layers d ≡ Some layer → Tells (Some (cell layer child 0)) (number (grammar checked) e d)
+  element_told child d layer child_is child_at there = cell_told checked marks layers told child e (element_marked child child_is) (element_there child child_at) 0 d layer there
 
-      by : (most_components card d < c) ⊎ (c ≤ most_components card d) → Tells one (list_number (grammar checked) e c d)
+  -- the lists of c components in a row
+  pub list_in_row : (m c d : ℕ) (layer : Layer) (row : List ℕ) → 1 ≤ c → c ≤ most_components card m → slice_get layers d ≡ Some layer → slice_get layer node ≡ Some row
+      → unwrap_or (slice_get row c) 0 ≡ list_number (grammar checked) e c d
+  list_in_row m c d layer row low high there in_layer = in_row ∙ entry.0 ∙ by (cases_lt (most_components card d) c)
+    where
+      in_row : unwrap_or (slice_get row c) 0 ≡ cell layer node c
+      in_row = sym (ap (λ (found : Option (List ℕ)). unwrap_or (slice_get (unwrap_or found []) c) 0) in_layer)
+
+      entry : Tells (Some (cell layer node c)) (unwrap_or (slice_get (values (numbers_at (grammar checked) (expr.Many kind.Sequence e card) d)) c) 0)
+      entry = cell_told checked marks layers told node (expr.Many kind.Sequence e card) marked at c d layer there
+
+      by : (most_components card d < c) ⊎ (c ≤ most_components card d)
+          → unwrap_or (slice_get (values (numbers_at (grammar checked) (expr.Many kind.Sequence e card) d)) c) 0 ≡ list_number (grammar checked) e c d
       by (inl past) =
-          tells_by one _ _
-          (ap (λ (found : Option ℕ). unwrap_or found 0) (no_list_value (grammar checked) e card d c past)
-          ∙ sym (recur.few (grammar checked) e card c d told.is_checked.spec told.is_checked.well_founded (in_nodes checked.rules node _ at) (few_or_looked card m d c high past)))
-          entry
-      by (inr looked) = tells_by one _ _ (ap (λ (found : Option ℕ). unwrap_or found 0) (list_value (grammar checked) e card d c low looked)) entry
-
-  -- one more component
-  pub lists_products : (child m c : ℕ) (firsts others : List (Option ℕ)) → slice_get (children_at checked.rules node) 0 ≡ Some child
-      → node_at checked.rules child ≡ slice_get (arguments_at checked.rules node) 0 → m ≡ length layers → 1 ≤ c → suc c ≤ most_components card m
-      → firsts ≡ column layers child 0 ++ Some 0 ∷ [] → others ≡ column layers node c ++ Some 0 ∷ []
-      → ProductsTold firsts others (number (grammar checked) e) (list_number (grammar checked) e c) m
-  lists_products child m c firsts others child_is child_at filled low high first_is other_is d one two within one_at two_at = by (cases_lt d 1) (cases_lt d m)
-    where
-      first_at : slice_get (column layers child 0 ++ Some 0 ∷ []) d ≡ Some one
-      first_at = subst (λ (all : List (Option ℕ)). slice_get all d ≡ Some one) first_is one_at
-
-      other_at : slice_get (column layers node c ++ Some 0 ∷ []) (m - d) ≡ Some two
-      other_at = subst (λ (all : List (Option ℕ)). slice_get all (m - d) ≡ Some two) other_is two_at
-
-      room : 2 ≤ m
-      room = omega (arith, most_le card m)
-
-      one_told : d < m → Tells one (number (grammar checked) e d)
-      one_told below = entry_told checked marks layers told child e (element_marked child child_is) (element_there child child_at) 0 (Some 0) d one (omega arith) first_at
-
-      two_told : 0 < d → Tells two (list_number (grammar checked) e c (m - d))
-      two_told above = list_told m c (Some 0) (m - d) two low (omega arith) (omega arith) other_at
-
-      by : (d < 1) ⊎ (1 ≤ d) → (d < m) ⊎ (m ≤ d) → ProductTold one two (number (grammar checked) e d) (list_number (grammar checked) e c (m - d))
-      by (inr some) (inl below) = inl (one_told below, two_told (omega arith))
-      by (inl none) (inr past) = absurd (omega (arith, room))
-      by (inl none) (inl below) =
-          let same : d ≡ 0 = omega arith in
-          let empty : number (grammar checked) e d ≡ 0 =
-          ap (number (grammar checked) e) same ∙ recur.element (grammar checked) kind.Sequence e card told.is_checked.spec told.is_checked.well_founded (in_nodes checked.rules node _ at) in
-          inr (inl (told_zero one _ (one_told below) empty), subst (λ (k : ℕ). k * list_number (grammar checked) e c (m - d) ≡ 0) (sym empty) (omega arith))
-      by (inr some) (inr past) =
-          let none : list_number (grammar checked) e c (m - d) ≡ 0 =
-          recur.few (grammar checked) e card c (m - d) told.is_checked.spec told.is_checked.well_founded (in_nodes checked.rules node _ at) (omega arith) in
-          inr (inl (last_entry layers child 0 (Some 0) d one (omega arith) first_at), subst (λ (k : ℕ). number (grammar checked) e d * k ≡ 0) (sym none) (omega arith))
+          ap (λ (found : Option ℕ). unwrap_or found 0) (no_list_value (grammar checked) e card d c past)
+          ∙ sym (recur.few (grammar checked) e card c d told.is_checked.spec told.is_checked.well_founded (in_nodes checked.rules node _ at) (few_or_looked card m d c high past))
+      by (inr looked) = ap (λ (found : Option ℕ). unwrap_or found 0) (list_value (grammar checked) e card d c low looked)
 
   pub list_joined : (universe : Universe) (m c : ℕ) (sum : Option ℕ) → universe ≡ checked.universe
       → Tells sum (joined universe (number (grammar checked) e) (list_number (grammar checked) e c) m) → Tells sum (list_number (grammar checked) e (suc c) m)
@@ -123,26 +98,48 @@ module _ (checked : Checked) (marks : List Bool) (layers : List Layer) (told : A
       tells_by sum _ _ (sym (recur.lists (grammar checked) e card c m told.is_checked.spec told.is_checked.well_founded (in_nodes checked.rules node _ at)))
       (subst (λ (u : Universe). Tells sum (joined u (number (grammar checked) e) (list_number (grammar checked) e c) m)) same joined_told)
 
-  -- a step of the loop over the numbers of components
-  pub lists_step : (child m longer : ℕ) (read : Card) (universe : Universe) (rows : List Layer) (firsts others : List (Option ℕ)) (sum : Option ℕ) (made more : List (Option ℕ))
-      → rows ≡ layers → slice_get (children_at checked.rules node) 0 ≡ Some child → node_at checked.rules child ≡ slice_get (arguments_at checked.rules node) 0 → length layers ≡ m
-      → card_at checked.rules node ≡ Some read → longer + 2 ≤ most_components read m → firsts ≡ column rows child 0 ++ Some 0 ∷ [] → others ≡ column rows node (longer + 1) ++ Some 0 ∷ []
-      → universe ≡ checked.universe → ((first other : ℕ → ℕ) → ProductsTold firsts others first other m → Tells sum (joined universe first other m)) → more ≡ made ++ sum ∷ []
-      → TellAll made (map (λ c. list_number (grammar checked) e c m) (range_with_len 2 longer)) → TellAll more (map (λ c. list_number (grammar checked) e c m) (range_with_len 2 (longer + 1)))
-  lists_step child m longer read universe rows firsts others sum made more same child_is child_at filled card_is looked first_is other_is in_universe joined_told pushed all =
-      subst (λ (items : List (Option ℕ)). TellAll items (map (λ c. list_number (grammar checked) e c m) (range_with_len 2 (longer + 1)))) (sym pushed)
-      (tell_made (λ c. list_number (grammar checked) e c m) made sum 2 longer (suc (longer + 1)) (omega arith) all
-      (list_joined universe m (longer + 1) sum in_universe (joined_told (number (grammar checked) e) (list_number (grammar checked) e (longer + 1)) products)))
+  -- steps of the loop over the sizes of the first element
+  pub lists_none : (universe : Universe) (m : ℕ) (sums : List (Option ℕ)) → ((i : ℕ) (one : Option ℕ) → slice_get sums i ≡ Some one → one ≡ Some 0)
+      → AreSummed universe (number (grammar checked) e) (list_number (grammar checked) e) m 1 sums
+  lists_none universe m sums =
+      summed_none universe (number (grammar checked) e) (list_number (grammar checked) e) m sums
+      (recur.element (grammar checked) kind.Sequence e card told.is_checked.spec told.is_checked.well_founded (in_nodes checked.rules node _ at))
+
+  pub lists_pass : (universe : Universe) (child m d : ℕ) (layer : Layer) (sums : List (Option ℕ)) → slice_get (children_at checked.rules node) 0 ≡ Some child
+      → node_at checked.rules child ≡ slice_get (arguments_at checked.rules node) 0 → slice_get layers d ≡ Some layer → cell layer child 0 ≡ 0
+      → AreSummed universe (number (grammar checked) e) (list_number (grammar checked) e) m d sums → AreSummed universe (number (grammar checked) e) (list_number (grammar checked) e) m (d + 1) sums
+  lists_pass universe child m d layer sums child_is child_at there none =
+      summed_pass universe (number (grammar checked) e) (list_number (grammar checked) e) m d sums (sym (element_told child d layer child_is child_at there).0 ∙ none)
+
+  pub card_here : card_at checked.rules node ≡ Some card
+  card_here = ap (option_and_then card_of) at
+
+  pub lists_more : (universe : Universe) (child m d elements : ℕ) (ways_told firsts : Option ℕ) (layer other : Layer) (row : List ℕ) (before after : List (Option ℕ))
+      → slice_get (children_at checked.rules node) 0 ≡ Some child → node_at checked.rules child ≡ slice_get (arguments_at checked.rules node) 0 → slice_get layers d ≡ Some layer → elements ≡ cell layer child 0
+      → slice_get layers (m - d) ≡ Some other → slice_get other node ≡ Some row → length before ≡ most_components card m - 1 → Tells ways_told (ways universe m d)
+      → ((x y : ℕ) → Tells ways_told x → Tells (Some elements) y → Tells firsts (x * y)) → length after ≡ length before
+      → ((i : ℕ) (one two : Option ℕ) → slice_get before i ≡ Some one → slice_get after i ≡ Some two → AddsProduct one two firsts (unwrap_or (slice_get row (i + 1)) 0))
+      → AreSummed universe (number (grammar checked) e) (list_number (grammar checked) e) m d before → AreSummed universe (number (grammar checked) e) (list_number (grammar checked) e) m (d + 1) after
+  lists_more universe child m d elements ways_told firsts layer other row before after child_is child_at there elements_are other_there in_other count by_ways product same added =
+      summed_more universe (number (grammar checked) e) (list_number (grammar checked) e) m d before after firsts row same added
+      (product (ways universe m d) (number (grammar checked) e d) by_ways (subst (λ (k : ℕ). Tells (Some k) (number (grammar checked) e d)) (sym elements_are) (element_told child d layer child_is child_at there)))
+      (λ i within. list_in_row m (i + 1) (m - d) other row (omega arith) (omega (arith, count, within)) other_there in_other)
+
+  pub lists_all : (universe : Universe) (m d : ℕ) (made : List (Option ℕ)) → length made ≡ most_components card m - 1 → m ≤ d → (1 ≤ m → d ≤ m)
+      → universe ≡ checked.universe → AreSummed universe (number (grammar checked) e) (list_number (grammar checked) e) m d made
+      → TellAll made (map (λ c. list_number (grammar checked) e c m) (range_with_len 2 (most_components card m - 1)))
+  lists_all universe m d made count past until same summed = record {
+    for_each = count ∙ sym (length-map-range_with_len (λ (c : ℕ). list_number (grammar checked) e c m) 2 (most_components card m - 1));
+    each = λ i n one there number_at. by i n one there number_at (slice_get_within made i one there);
+  }
     where
-      bound : most_components read m ≡ most_components card m
-      bound = ap (λ (k : Card). most_components k m) (card_same (node_at checked.rules node) e card read at card_is)
-
-      products : ProductsTold firsts others (number (grammar checked) e) (list_number (grammar checked) e (longer + 1)) m
-      products = lists_products child m (longer + 1) firsts others child_is child_at (sym filled) (omega arith) (omega (arith, bound))
-          (first_is ∙ ap (λ (some : List Layer). column some child 0 ++ Some 0 ∷ []) same) (other_is ∙ ap (λ (some : List Layer). column some node (longer + 1) ++ Some 0 ∷ []) same)
-
-  pub lists_all : (m longer : ℕ) (read : Card) (made : List (Option ℕ)) → card_at checked.rules node ≡ Some read → longer ≡ most_components read m - 1
-      → TellAll made (map (λ c. list_number (grammar checked) e c m) (range_with_len 2 longer)) → TellAll made (map (λ c. list_number (grammar checked) e c m) (range_with_len 2 (most_components card m - 1)))
-  lists_all m longer read made card_is same all =
-      subst (λ (k : ℕ). TellAll made (map (λ c. list_number (grammar checked) e c m) (range_with_len 2 k)))
-      (same ∙ ap (λ (k : Card). most_components k m - 1) (card_same (node_at checked.rules node) e card read at card_is)) all
+      by : (i n : ℕ) (one : Option ℕ) → slice_get made i ≡ Some one → slice_get (map (λ c. list_number (grammar checked) e c m) (range_with_len 2 (most_components card m - 1))) i ≡ Some n → i < length made → Tells one n
+      by i n one there number_at within =
+          let end : d ≡ m = omega (arith, past, until, within, count, most_le card m) in
+          let here : Some (list_number (grammar checked) e (2 + i) m) ≡ Some n = sym (made_at (λ (c : ℕ). list_number (grammar checked) e c m) 2 (most_components card m - 1) i (omega (arith, within, count))) ∙ number_at in
+          let is : list_number (grammar checked) e (2 + i) m ≡ n = cc in
+          let longer : suc (i + 1) ≡ 2 + i = omega arith in
+          tells_by one _ _ (ap (λ (c : ℕ). list_number (grammar checked) e c m) longer ∙ is)
+          (list_joined universe m (i + 1) one same
+          (summed_all universe (number (grammar checked) e) (list_number (grammar checked) e) m d i made one end
+          (recur.few (grammar checked) e card (i + 1) 0 told.is_checked.spec told.is_checked.well_founded (in_nodes checked.rules node _ at) (omega arith)) summed there))

@@ -1,30 +1,23 @@
 -- What stands in the tables and in their columns.
-use Rattle.std.proofs.Common.{◌≡◌, ◌⊎◌, ℕ, zero, suc, ◌+◌, ◌-◌, ◌*◌, ◌<◌, ◌≤◌, ◌^◌, min, Bool, true, List, [], ◌∷◌, ◌++◌, length, map, drop, get_or, Option, Some, None, slice_get, unwrap_or, refl, sym, ap, ◌∙◌, subst, inl, inr, arith, IsTrue}
-use Rattle.std.specs.Option.{option_map, option_map_or}
+use Rattle.std.proofs.Common.{◌≡◌, ◌⊎◌, ℕ, zero, suc, ◌+◌, ◌-◌, ◌<◌, ◌≤◌, ◌^◌, Bool, List, [], ◌∷◌, ◌++◌, length, map, Option, Some, None, slice_get, unwrap_or, refl, sym, ap, ◌∙◌, subst, inl, inr, arith}
+use Rattle.std.specs.Option.{option_map}
 use Rattle.std.specs.List.{range_with_len}
-use Rattle.std.proofs.lemmas.Bool.{cases_lt, leb-true}
 use Rattle.std.proofs.lemmas.Option.{slice_get-map, slice_get_within, slice_get_past}
 use Rattle.std.proofs.lemmas.List.FromFn.{length-map-range_with_len, map-range_with_len_more}
 use Rattle.std.proofs.lemmas.List.{length_push, length-map}
 use Rattle.lists.proofs.Places.{pushed_at}
 use Rattle.spec_syntax.specs.declared.expr.Card.{Card}
 use Rattle.spec_syntax.specs.declared.expr.Kind.TheVariants as kind
-use Rattle.spec_syntax.specs.Card.{is_within}
 use Rattle.spec_syntax.specs.Expression as expr
 use Rattle.spec_syntax.specs.Expression.{Expression, Expressions, expression_list}
-use Rattle.spec_syntax.specs.Rules.{all_nodes}
 use Rattle.spec_syntax.specs.Nodes.{node_at}
 use Rattle.spec_syntax.specs.Grammar.{Grammar}
-use Rattle.spec_syntax.proofs.NodesLemmas.{in_nodes}
 use Rattle.graphs.specs.Graph.{IsMarked}
-use Rattle.struct_model.specs.Bounded.{number}
 use Rattle.well_founded.specs.Checked.{Checked, grammar}
-use Rattle.listing_laws.specs.Numbers.{exactly}
 use Rattle.splits.specs.Capped.{Tells}
 use Rattle.size_counts.specs.Tables.{Layer, cell, column}
-use Rattle.size_counts.specs.Numbers.{Numbered, numbers_at, others_at, suffix_number, suffixes_at, list_number, lists_at, most_components}
+use Rattle.size_counts.specs.Numbers.{Numbered, numbers_at, suffix_number, suffixes_at, list_number, lists_at, most_components}
 use Rattle.size_counts.specs.Told.{values, IsLayer, AreTold, TellAll}
-use Rattle.size_counts.proofs.Law.{recur}
 
 -- ---- lists
 
@@ -89,7 +82,7 @@ length_column layers node i last = length_push (column layers node i) last ∙ a
 module _ (checked : Checked) (marks : List Bool) (layers : List Layer) (told : AreTold checked marks layers) (node : ℕ) (e : Expression)
     (marked : IsMarked marks node) (at : node_at checked.rules node ≡ Some e) where
   -- what stands in a layer
-  cell_told : (i m : ℕ) (layer : Layer) → slice_get layers m ≡ Some layer → Tells (Some (cell layer node i)) (unwrap_or (slice_get (values (numbers_at (grammar checked) e m)) i) 0)
+  pub cell_told : (i m : ℕ) (layer : Layer) → slice_get layers m ≡ Some layer → Tells (Some (cell layer node i)) (unwrap_or (slice_get (values (numbers_at (grammar checked) e m)) i) 0)
   cell_told i m layer there = (same, small (slice_get (values (numbers_at (grammar checked) e m)) i) refl)
     where
       of_layer : IsLayer (grammar checked) marks m layer

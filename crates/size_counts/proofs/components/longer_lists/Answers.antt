@@ -1,21 +1,32 @@
-use Rattle.std.proofs.Common.{◌≡◌, ◌+◌, ◌≤◌, ◌-◌, ap, sym, ◌∙◌, arith}
-use Rattle.size_counts.specs.Numbers.{most_components}
-use Rattle.size_counts.specs.Ways.{universe_of}
-use Rattle.size_counts.proofs.ListLemmas.{lists_step, lists_all}
+use Rattle.std.proofs.Common.{◌≡◌, ◌-◌, ℕ, List, Option, Some, length, slice_get, map, replicate, ap, sym, subst, ◌∙◌, arith, rules}
+use Rattle.std.specs.List.{range_with_len}
+use Rattle.std.proofs.lemmas.Grind.{common_steps}
+use Rattle.std.proofs.lemmas.List.{length-replicate}
+use Rattle.spec_syntax.specs.declared.expr.Card.{Card}
+use Rattle.well_founded.specs.Checked.{grammar}
+use Rattle.size_counts.specs.Numbers.{most_components, list_number}
+use Rattle.size_counts.specs.Told.{TellAll}
+use Rattle.size_counts.proofs.SumLemmas.{if_ok, zeros_at}
 use Rattle.size_counts.proofs.components.longer_lists.Goals as goal
 
-pub loop-longer-preserved : goal.loop-longer-preserved
-loop-longer-preserved c = λ element card at.
-    let tables = c.args.tables.now in
-    lists_step tables.grammar tables.marks.items tables.layers.items c.requires.ready.told c.args.node element card c.requires.marked at
-    c.child-element.result c.args.m c.loop-longer.longer c.card.result (universe_of tables.ways) c.as_slice-layers.result.now c.as_slice.result.now c.as_slice-in-loop-longer.result.now c.joined.result
-    c.loop-longer.made c.push.new.self c.as_slice-layers.ensures.value c.child-element.ensures.value c.child-element.ensures.argument c.requires.ready.filled c.card.ensures
-    (omega (arith, c.most_components-most.ensures, c.saturating_sub-longer-end.ensures))
-    (c.as_slice.ensures.value ∙ c.in_ok-firsts.ensures) (c.as_slice-in-loop-longer.ensures.value ∙ c.in_ok-others.ensures) c.requires.ready.universe c.joined.ensures c.in_ok-push.ensures.ok
-    (c.loop-longer.invariant element card at)
+pub add_lists-requires-clause-count : goal.add_lists-requires-clause-count
+add_lists-requires-clause-count c = λ card is.
+    let zeros : c.in_ok-sums.sums.items ≡ replicate (c.most_components-most.result - 1) (Some 0) = search rules in
+    let same : Some card ≡ Some c.card.result = sym is ∙ c.card.ensures in
+    let read : card ≡ c.card.result = cc in
+    let most : most_components card c.args.m ≡ c.most_components-most.result = ap (λ (k : Card). most_components k c.args.m) read ∙ sym c.most_components-most.ensures in
+    let count : length c.in_ok-sums.sums.items ≡ c.most_components-most.result - 1 = ap (λ (items : List (Option ℕ)). length items) zeros ∙ length-replicate (c.most_components-most.result - 1) (Some 0) in
+    grind (arith, c.deref_mut.ensures)
+
+pub add_lists-requires-clause-zeros : goal.add_lists-requires-clause-zeros
+add_lists-requires-clause-zeros c = λ i sum there.
+    let zeros : c.in_ok-sums.sums.items ≡ replicate (c.most_components-most.result - 1) (Some 0) = search rules in
+    zeros_at (c.most_components-most.result - 1) i sum (ap (λ (items : List (Option ℕ)). slice_get items i) (sym (c.deref_mut.ensures.value ∙ zeros)) ∙ there)
 
 pub returns : goal.returns
-returns c = λ element card at.
-    let tables = c.args.tables.now in
-    lists_all tables.grammar tables.marks.items tables.layers.items c.requires.ready.told c.args.node element card c.requires.marked at
-    c.args.m c.loop-longer.longer c.card.result c.loop-longer.made c.card.ensures (omega (arith, c.most_components-most.ensures, c.saturating_sub-longer-end.ensures)) (c.loop-longer.invariant element card at)
+returns c = if_ok c.from_slice.result _ _
+    (λ made same. λ element card at.
+    let taken : c.as_slice.result.now ≡ c.add_lists.new.sums = grind (arith, common_steps, c.add_lists.ensures.same) in
+    subst (λ (items : List (Option ℕ)). TellAll items (map (λ (k : ℕ). list_number (grammar c.args.tables.now.grammar) element k c.args.m) (range_with_len 2 (most_components card c.args.m - 1))))
+    (sym (same ∙ taken)) (c.add_lists.ensures.told element card at))
+    c.from_slice.ensures
