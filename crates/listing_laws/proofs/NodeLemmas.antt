@@ -78,7 +78,7 @@ module _ (checked : Checked) where
   pub listing_is : (node : ℕ) (e : Expression) (u : List ℕ) → node_at checked.rules node ≡ Some e → listing_on checked node u ≡ listing g e u
   listing_is node e u at = ap (λ o. option_map_or (λ f. listing g f u) o []) at
 
-  lists_are : (element : ℕ) (e : Expression) (card : Card) (u : List ℕ) → node_at checked.rules element ≡ Some e → lists_on checked element card u ≡ repeated_on g e card u
+  pub lists_are : (element : ℕ) (e : Expression) (card : Card) (u : List ℕ) → node_at checked.rules element ≡ Some e → lists_on checked element card u ≡ repeated_on g e card u
   lists_are element e card u at = ap (λ o. option_map_or (λ f. repeated_on g f card u) o []) at
 
   number_is : (node : ℕ) (e : Expression) (n : ℕ) → node_at checked.rules node ≡ Some e → number_of_node checked node n ≡ number g e n

@@ -125,7 +125,7 @@ module _ (checked : Checked) (passed : IsChecked checked) where
 
   -- ---- Prods
 
-  are_least : (ms : List ℕ) (es : List Expression) → AreNodes checked.rules ms es → AreLeast (grammar checked) es (map (least_at checked) ms)
+  pub are_least : (ms : List ℕ) (es : List Expression) → AreNodes checked.rules ms es → AreLeast (grammar checked) es (map (least_at checked) ms)
   are_least [] [] nodes = tt
   are_least [] (e ∷ es) nodes = absurd nodes
   are_least (m ∷ ms) [] nodes = absurd nodes
@@ -172,7 +172,7 @@ module _ (checked : Checked) (passed : IsChecked checked) where
 
   -- ---- Sequences
 
-  some_within : (high : Option ℕ) → (high ≡ Some 0 → ⊥) → is_within high 1 ≡ true
+  pub some_within : (high : Option ℕ) → (high ≡ Some 0 → ⊥) → is_within high 1 ≡ true
   some_within None some = refl
   some_within (Some zero) some = absurd (some refl)
   some_within (Some (suc n)) some = grind (arith, nat_tests)

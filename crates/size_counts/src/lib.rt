@@ -7,7 +7,6 @@ mod components;
 mod counted;
 mod counts;
 mod fill;
-mod graph;
 mod laws;
 mod layer;
 mod place;

@@ -6,10 +6,9 @@ ghost use Rattle.spec_syntax.specs.Nodes.{node_at, children_at, below, right_nod
 ghost use Rattle.well_founded.specs.Checked.{IsChecked};
 ghost use Rattle.size_counts.specs.Reached.{below_graph, AreReached};
 
-use crate::graph::reached;
 use seq::Seq;
 use std::alloc::{AllocError, Global};
-use well_founded::{Grammar, NodeKind};
+use well_founded::{Grammar, NodeKind, reached};
 
 /// The nodes directly inside the node.
 ///

@@ -57,7 +57,7 @@ fn next_new(graph: &[Seq<u32>], from: u32, marks: &[bool]) -> Option<u32>
 /// # Errors
 ///
 /// Memory may be wanting.
-pub(crate) fn reached(alloc: Global, graph: &[Seq<u32>], from: u32) -> Result<Vec<bool>, AllocError>
+pub fn reached(alloc: Global, graph: &[Seq<u32>], from: u32) -> Result<Vec<bool>, AllocError>
     requires graph_is { IsGraph graph.now }
     requires from_in { from < length graph.now }
     requires few { length graph.now ≤ 128 }

@@ -17,6 +17,7 @@ mod same_size;
 
 pub use checking::check;
 pub use grammar::Grammar;
+pub use graph::reached;
 pub use laws::each_grammar_has_one_check;
 pub use node::NodeKind;
 pub use refused::Refused;
