@@ -1,12 +1,11 @@
 -- The count of a node by those of the nodes below it.
-use Rattle.std.proofs.Common.{◌≡◌, ◌⊎◌, ℕ, zero, suc, ◌+◌, ◌-◌, ◌*◌, ◌<◌, ◌≤◌, min, Bool, true, false, cond, true≢false, List, [], ◌∷◌, ◌++◌, length, map, take, drop, Option, Some, None, slice_get, unwrap_or, refl, sym, ap, ◌∙◌, subst, inl, inr, arith, IsTrue}
+use Rattle.std.proofs.Common.{◌≡◌, ℕ, zero, suc, ◌+◌, ◌-◌, ◌<◌, ◌≤◌, min, Bool, true, false, true≢false, List, [], ◌∷◌, length, map, take, Option, Some, None, slice_get, refl, sym, ap, ◌∙◌, subst, arith, IsTrue}
 use Rattle.std.specs.Prelude.{◌&&◌, nat_le, if◌then◌else◌}
 use Rattle.std.specs.List.{sum, range_with_len, list_all}
 use Rattle.std.specs.Option.{option_map, option_map_or, option_and_then}
-use Rattle.std.proofs.lemmas.Bool.{cases_lt, leb-true, and_parts}
+use Rattle.std.proofs.lemmas.Bool.{leb-true, and_parts}
 use Rattle.std.proofs.lemmas.List.{take_all, nil_from_length}
 use Rattle.std.proofs.lemmas.List.FromFn.{sum_by-map-range_with_len_more, length-map-range_with_len}
-use Rattle.std.proofs.lemmas.Option.{slice_get_within}
 use Rattle.lists.proofs.Positions.{slice_some}
 use Rattle.lists.proofs.Sums.{sum_more}
 use Rattle.lists.proofs.RangeSums.{sum_append}
@@ -24,10 +23,9 @@ use Rattle.well_founded.specs.declared.node.NodeKind.TheVariants as told
 use Rattle.well_founded.specs.NodeKinds.{kind_of}
 use Rattle.well_founded.specs.SameSize.{is_told_inside}
 use Rattle.well_founded.specs.Checked.{Checked, IsChecked, grammar}
-use Rattle.listing_laws.specs.Numbers.{one_at, admitted, exactly}
+use Rattle.listing_laws.specs.Numbers.{one_at}
 use Rattle.splits.specs.Capped.{Tells}
-use Rattle.size_counts.specs.Numbers.{list_number, most_components, suffix_number}
-use Rattle.size_counts.specs.Told.{TellAll}
+use Rattle.size_counts.specs.Numbers.{list_number, most_components}
 use Rattle.size_counts.specs.Suffixes.{SuffixesTold}
 use Rattle.size_counts.specs.Turns.{EachTold, NameTold, LongerTold, word_size}
 use Rattle.size_counts.proofs.Law.{recur}

@@ -1,13 +1,11 @@
 -- Tables that are filled size by size, and what they say once they are full.
 use Rattle.std.proofs.Common.{◌≡◌, ◌⊎◌, ℕ, zero, suc, ◌+◌, ◌-◌, ◌<◌, ◌≤◌, min, Bool, true, cond, List, [], ◌∷◌, ◌++◌, length, find, get_or, Option, Some, None, slice_get, unwrap_or, Result, Ok, Err, refl, sym, ap, ◌∙◌, subst, inl, inr, arith, IsTrue}
 use Rattle.std.specs.Option.{option_map, option_map_or, option_and_then}
-use Rattle.std.specs.List.{flat_map, range_with_len}
 use Rattle.std.specs.Prelude.{IfSome}
 use Rattle.std.specs.Result.{IfErr, IsErrAnd}
 use Rattle.std.proofs.lemmas.Bool.{cases_lt, leb-true}
 use Rattle.lists.specs.Enumeration.{IsIn}
 use Rattle.std.proofs.lemmas.List.{length_push}
-use Rattle.std.proofs.lemmas.Option.{slice_get_within}
 use Rattle.lists.proofs.Positions.{slice_some}
 use Rattle.spec_syntax.specs.Expression as expr
 use Rattle.spec_syntax.specs.Expression.{Expression, Expressions}
@@ -22,7 +20,7 @@ use Rattle.listing_laws.specs.Numbers.{one_at}
 use Rattle.size_counts.specs.declared.sums.Ways.{Ways}
 use Rattle.size_counts.specs.declared.sums.Ways.TheVariants.{Labelled, Unlabelled}
 use Rattle.size_counts.specs.Ways.{CanSplit}
-use Rattle.spec_syntax.specs.Rules.{Rules, all_nodes, are_sequences, is_spec, right_side, rule_name, symbol}
+use Rattle.spec_syntax.specs.Rules.{all_nodes, are_sequences, is_spec, right_side, rule_name, symbol}
 use Rattle.spec_syntax.proofs.RuleNames.{symbol_own}
 use Rattle.std.proofs.Math.Dec.{eqb-suc-zero}
 use Rattle.spec_syntax.specs.Nodes.{node_at, card_at, children_at, arguments_of, card_of, right_node}
@@ -36,7 +34,7 @@ use Rattle.size_counts.specs.declared.place.CountFault.TheVariants.{TooLarge, Me
 use Rattle.size_counts.specs.declared.tables.Tables.{Tables}
 use Rattle.size_counts.specs.declared.counted.Counted.TheInside.{Inside}
 use Rattle.size_counts.specs.Reached.{AreReached, IsReached}
-use Rattle.size_counts.specs.Numbers.{NumbersSay, Numbered, numbers_at, suffix_number, list_number, most_components, Spot, numbers_of_size, is_large_spot, place_of, first_large}
+use Rattle.size_counts.specs.Numbers.{NumbersSay, numbers_at, suffix_number, list_number, most_components, numbers_of_size, is_large_spot, place_of, first_large}
 use Rattle.size_counts.specs.Tables.{Layer, cell}
 use Rattle.size_counts.specs.Told.{values, IsLayer, AreTold}
 use Rattle.size_counts.specs.CountedView.{Counts, IsReachedIn, FaultSays, number_of, suffix_of, lists_of}

@@ -1,5 +1,5 @@
 -- The numbers of a size as they are kept, and the first that is too large.
-use Rattle.std.proofs.Common.{◌≡◌, ◌⊎◌, ℕ, zero, suc, ◌+◌, ◌-◌, ◌<◌, ◌≤◌, ◌^◌, Bool, true, false, cond, true≢false, List, [], ◌∷◌, ◌++◌, length, map, take, find, Option, Some, None, slice_get, unwrap_or, refl, sym, ap, ◌∙◌, subst, inl, inr, arith, IsTrue}
+use Rattle.std.proofs.Common.{◌≡◌, ◌⊎◌, ℕ, zero, suc, ◌+◌, ◌-◌, ◌<◌, ◌≤◌, ◌^◌, Bool, true, false, cond, List, [], ◌∷◌, ◌++◌, length, map, take, find, Option, Some, None, slice_get, unwrap_or, refl, sym, ap, ◌∙◌, subst, inl, inr, arith, IsTrue}
 use Rattle.std.specs.Option.{option_map, option_map_or, option_or}
 use Rattle.std.specs.List.{flat_map, range_with_len}
 use Rattle.std.specs.Prelude.{if◌then◌else◌}
@@ -18,7 +18,6 @@ use Rattle.spec_syntax.proofs.RulesLemmas.{all_nodes-from_spec}
 use Rattle.lists.proofs.Places.{pushed_at}
 use Rattle.spec_syntax.specs.Rules.{all_nodes, is_spec}
 use Rattle.spec_syntax.specs.Nodes.{node_at}
-use Rattle.spec_syntax.specs.Grammar.{Grammar}
 use Rattle.graphs.specs.Graph.{IsMarked}
 use Rattle.well_founded.specs.Checked.{Checked, grammar}
 use Rattle.splits.specs.Capped.{Tells}

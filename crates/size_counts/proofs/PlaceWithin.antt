@@ -1,18 +1,18 @@
 -- The place of a number is in a rule.
-use Rattle.std.proofs.Common.{◌≡◌, ℕ, zero, suc, ◌+◌, ◌<◌, ◌≤◌, Bool, true, false, cond, List, [], ◌∷◌, length, map, find, if◌then◌else◌, slice_get, unwrap_or, Option, Some, None, refl, sym, ap, ◌∙◌, subst, inl, inr, arith}
-use Rattle.std.specs.Option.{option_map, option_map_or}
-use Rattle.std.specs.List.{flat_map, range_with_len}
+use Rattle.std.proofs.Common.{◌≡◌, ℕ, zero, suc, ◌+◌, ◌<◌, ◌≤◌, Bool, true, false, cond, List, [], ◌∷◌, length, find, if◌then◌else◌, slice_get, unwrap_or, Option, Some, None, refl, sym, ap, ◌∙◌, inl, inr, arith}
+use Rattle.std.specs.Option.{option_map}
+use Rattle.std.specs.List.{range_with_len}
 use Rattle.std.proofs.lemmas.Option.{slice_get_within}
 use Rattle.spec_syntax.specs.Expression.{Expression}
 use Rattle.spec_syntax.specs.Rules.{Rules, all_nodes, right_side}
 use Rattle.spec_syntax.specs.Nodes.{place_in_rule}
 use Rattle.spec_syntax.specs.Grammar.{Grammar}
-use Rattle.spec_syntax.proofs.NodePlaces.{StandsIn, place_is, place_there}
+use Rattle.spec_syntax.proofs.NodePlaces.{place_is, place_there}
 use Rattle.lists.specs.Enumeration.{IsIn}
 use Rattle.lists.proofs.Enumerated.{from_map, from_flat_map}
 use Rattle.lists.proofs.RangeSums.{in_range}
 use Rattle.size_counts.specs.declared.place.Place.{Place}
-use Rattle.size_counts.specs.Numbers.{Spot, Numbered, numbers_at, numbers_of_node, numbers_of_size, numbers_to, is_marked, is_large_spot, first_large, place_of, NumbersSay}
+use Rattle.size_counts.specs.Numbers.{Spot, numbers_of_node, numbers_of_size, numbers_to, is_marked, is_large_spot, first_large, place_of, NumbersSay}
 
 find_in : {X : Type 0} (test : X → Bool) (xs : List X) (x : X) → find test xs ≡ Some x → IsIn x xs
 find_in test [] x found = absurd (cc)

@@ -3,7 +3,7 @@ use Rattle.std.proofs.Common.{◌≡◌, ◌⊎◌, ℕ, zero, suc, ◌+◌, ◌
 use Rattle.std.specs.Option.{option_map, option_map_or, option_and_then}
 use Rattle.std.specs.List.{enumerate_from}
 use Rattle.std.proofs.Math.ListN.{set}
-use Rattle.std.proofs.lemmas.List.{length-set, take_more, take_all, length-map}
+use Rattle.std.proofs.lemmas.List.{length-set, take_more, length-map}
 use Rattle.std.proofs.lemmas.Option.{slice_get-get_or, slice_get_within, slice_get-map, slice_get_past}
 use Rattle.std.proofs.lemmas.List.FromFn.{length-enumerate_from}
 use Rattle.std.proofs.lemmas.Bool.{cases_lt}
@@ -18,9 +18,9 @@ use Rattle.spec_syntax.proofs.NodesLemmas.{below_nodes}
 use Rattle.well_founded.specs.declared.node.NodeKind.{NodeKind}
 use Rattle.well_founded.specs.declared.node.NodeKind.TheVariants as told
 use Rattle.well_founded.specs.NodeKinds.{kind_of}
-use Rattle.graphs.specs.Graph.{Graph, next, Leads, IsGraph, IsMarked, Reaches}
+use Rattle.graphs.specs.Graph.{Graph, next, IsGraph, IsMarked, Reaches}
 use Rattle.graphs.proofs.Reached.{next_at, marked_before, leads_step}
-use Rattle.size_counts.specs.Reached.{below_graph, IsReached, AreReached}
+use Rattle.size_counts.specs.Reached.{below_graph, AreReached}
 
 -- what is read at a place
 pub at_read : {X : Type 0} (xs : List X) (i : ℕ) (x : X) → i < length xs → x ≡ get_or xs i x → slice_get xs i ≡ Some x

@@ -1,6 +1,5 @@
 -- All numbers of a node at a size.
-use Rattle.std.proofs.Common.{◌≡◌, ◌⊎◌, ℕ, zero, suc, ◌+◌, ◌-◌, ◌<◌, ◌≤◌, Bool, true, false, true≢false, List, [], ◌∷◌, ◌++◌, length, map, Option, Some, None, slice_get, refl, sym, ap, ◌∙◌, subst, inl, inr, arith, IsTrue}
-use Rattle.std.specs.Option.{option_map}
+use Rattle.std.proofs.Common.{◌≡◌, ℕ, zero, suc, ◌+◌, ◌-◌, ◌<◌, ◌≤◌, Bool, true, false, true≢false, List, [], ◌∷◌, ◌++◌, length, map, Option, Some, slice_get, refl, sym, ap, ◌∙◌, subst, inl, inr, arith}
 use Rattle.std.specs.List.{range_with_len}
 use Rattle.std.proofs.lemmas.List.{length_push}
 use Rattle.std.proofs.lemmas.Option.{slice_get_within}
@@ -32,7 +31,6 @@ use Rattle.size_counts.proofs.ReachedLemmas.{children_here}
 use Rattle.size_counts.proofs.TableLemmas.{tell_none, tell_made}
 use Rattle.size_counts.proofs.ListLemmas.{tells_by, card_same, element_marked, element_there}
 use Rattle.size_counts.proofs.SuffixLemmas.{child_marked}
-use Rattle.size_counts.proofs.CountLemmas.{kind_here}
 
 pub tell_first : (told : List (Option ℕ)) (numbers : List ℕ) (one : Option ℕ) (n : ℕ) → Tells one n → TellAll told numbers → TellAll (one ∷ told) (n ∷ numbers)
 tell_first told numbers one n is all = record { for_each = ap suc all.for_each; each = each }

@@ -1,18 +1,16 @@
 -- The numbers of a class say something, and no two things.
-use Rattle.std.proofs.Common.{◌≡◌, ℕ, zero, suc, ◌<◌, ◌≤◌, Bool, true, false, List, [], ◌∷◌, length, Option, Some, slice_get, refl, sym, ap, ◌∙◌, subst, arith, IsTrue}
+use Rattle.std.proofs.Common.{◌≡◌, ℕ, suc, Bool, true, false, List, [], ◌∷◌, length, Some, refl, sym, ap, ◌∙◌, arith}
 use Rattle.std.specs.Option.{option_map}
 use Rattle.std.proofs.Math.ListN.{set}
-use Rattle.lists.proofs.Positions.{slice_some}
-use Rattle.spec_syntax.specs.Expression.{Expression}
-use Rattle.spec_syntax.specs.Rules.{Rules, all_nodes, right_side}
-use Rattle.spec_syntax.specs.Nodes.{right_node, node_at}
+use Rattle.spec_syntax.specs.Rules.{all_nodes}
+use Rattle.spec_syntax.specs.Nodes.{right_node}
 use Rattle.spec_syntax.proofs.NodesLemmas.{right_node_is}
 use Rattle.spec_syntax.proofs.RulesLemmas.{some_right}
 use Rattle.std.proofs.lemmas.Option.{slice_get_within}
 use Rattle.graphs.specs.Graph.{IsMarked}
 use Rattle.graphs.proofs.Reached.{marks_exist}
-use Rattle.size_counts.specs.Reached.{below_graph, AreReached}
-use Rattle.size_counts.specs.Numbers.{NumbersSay, first_large, place_of}
+use Rattle.size_counts.specs.Reached.{below_graph}
+use Rattle.size_counts.specs.Numbers.{first_large, place_of}
 use Rattle.size_counts.specs.Laws.{SaysSome, SaysOne}
 use Rattle.size_counts.proofs.ReachedLemmas.{below_is_graph, reached_all}
 

@@ -1,6 +1,6 @@
 -- Where a number stands.
-use Rattle.std.proofs.Common.{◌≡◌, ◌⊎◌, ℕ, zero, suc, ◌+◌, ◌-◌, ◌<◌, ◌≤◌, Bool, true, false, List, [], ◌∷◌, ◌++◌, length, map, take, Option, Some, None, slice_get, unwrap_or, refl, sym, ap, ◌∙◌, subst, inl, inr, arith, length-append}
-use Rattle.std.specs.Option.{option_map, option_map_or}
+use Rattle.std.proofs.Common.{◌≡◌, ◌⊎◌, ℕ, zero, suc, ◌+◌, ◌-◌, ◌<◌, ◌≤◌, List, [], ◌∷◌, length, map, take, Option, Some, None, slice_get, unwrap_or, refl, sym, ap, ◌∙◌, inl, inr, arith, length-append}
+use Rattle.std.specs.Option.{option_map}
 use Rattle.std.specs.List.{range_with_len}
 use Rattle.std.proofs.lemmas.Bool.{cases_lt}
 use Rattle.std.proofs.lemmas.Option.{slice_get_within}
@@ -9,7 +9,7 @@ use Rattle.spec_syntax.specs.declared.expr.Kind.TheVariants as kind
 use Rattle.spec_syntax.specs.Expression as expr
 use Rattle.spec_syntax.specs.Expression.{Expression, preorder, nodes, expression_list}
 use Rattle.spec_syntax.specs.Rules.{Rules, all_nodes, right_side}
-use Rattle.spec_syntax.specs.Nodes.{node_at, right_node, place_in_rule}
+use Rattle.spec_syntax.specs.Nodes.{right_node, place_in_rule}
 use Rattle.spec_syntax.specs.Grammar.{Grammar}
 use Rattle.spec_syntax.proofs.NodePlaces.{StandsIn, place_is, place_there}
 use Rattle.well_founded.specs.NodeKinds.{kind_of}

@@ -1,12 +1,9 @@
 -- The numbers of a Prod from each argument on.
-use Rattle.std.proofs.Common.{◌≡◌, ◌⊎◌, ℕ, zero, suc, ◌+◌, ◌-◌, ◌*◌, ◌<◌, ◌≤◌, Bool, true, false, cond, true≢false, List, [], ◌∷◌, ◌++◌, length, map, take, drop, replicate, Option, Some, None, slice_get, unwrap_or, refl, sym, ap, ◌∙◌, subst, inl, inr, arith, append_assoc, length-drop}
-use Rattle.std.specs.List.{sum, range_with_len}
-use Rattle.std.specs.Option.{option_map, option_map_or}
-use Rattle.std.proofs.Math.ListN.{set}
-use Rattle.std.proofs.Math.Dec.{eqb-suc-zero}
+use Rattle.std.proofs.Common.{◌≡◌, ◌⊎◌, ℕ, zero, suc, ◌+◌, ◌-◌, ◌*◌, ◌<◌, ◌≤◌, Bool, true, false, List, [], ◌∷◌, ◌++◌, length, take, drop, Option, Some, None, slice_get, unwrap_or, refl, sym, ap, ◌∙◌, subst, inl, inr, arith, append_assoc, length-drop}
+use Rattle.std.specs.List.{sum}
+use Rattle.std.specs.Option.{option_map_or}
 use Rattle.std.proofs.lemmas.Bool.{cases_lt}
 use Rattle.std.proofs.lemmas.List.{length_push, take-append-drop, nil_from_length}
-use Rattle.std.proofs.lemmas.Option.{slice_get_within}
 use Rattle.lists.specs.Enumeration.{IsIn}
 use Rattle.lists.proofs.Places.{pushed_at, drop_at}
 use Rattle.lists.proofs.Positions.{slice_some}
@@ -28,7 +25,7 @@ use Rattle.size_counts.specs.Told.{values, AreTold}
 use Rattle.size_counts.specs.Sums.{ProductTold, ProductsTold}
 use Rattle.size_counts.specs.Suffixes.{IsNothing, NoneBelow, NoneBut, ArgumentsTold, SuffixesTold, OthersTold}
 use Rattle.size_counts.proofs.Law.{recur}
-use Rattle.size_counts.proofs.SumLemmas.{joined_to, joined_more}
+use Rattle.size_counts.proofs.SumLemmas.{joined_more}
 use Rattle.size_counts.proofs.TableLemmas.{entry_told, last_entry, length_column, suffix_value}
 use Rattle.size_counts.proofs.ListLemmas.{told_zero, tells_by}
 

@@ -1,6 +1,6 @@
 -- When its turn comes, what a node needs of the nodes below it is told.
-use Rattle.std.proofs.Common.{◌≡◌, ◌⊎◌, ℕ, zero, suc, ◌+◌, ◌-◌, ◌<◌, ◌≤◌, Bool, true, false, true≢false, List, [], ◌∷◌, length, Option, Some, None, slice_get, unwrap_or, refl, sym, ap, ◌∙◌, subst, inl, inr, arith, IsTrue}
-use Rattle.std.specs.Option.{option_map_or, option_and_then}
+use Rattle.std.proofs.Common.{◌≡◌, ◌⊎◌, ℕ, zero, suc, ◌<◌, ◌≤◌, Bool, true, false, true≢false, List, [], ◌∷◌, length, Option, Some, slice_get, unwrap_or, refl, sym, ap, ◌∙◌, subst, inl, inr, arith, IsTrue}
+use Rattle.std.specs.Option.{option_and_then}
 use Rattle.std.proofs.lemmas.Bool.{cases_lt}
 use Rattle.std.proofs.lemmas.Option.{slice_get_within, slice_get_past}
 use Rattle.lists.proofs.Places.{in_of_get}
@@ -24,7 +24,7 @@ use Rattle.well_founded.specs.Rank.{FallsBySizes, CanHaveAll}
 use Rattle.splits.specs.Capped.{Tells}
 use Rattle.size_counts.specs.Tables.{Layer}
 use Rattle.size_counts.specs.Told.{AreTold, TellNow}
-use Rattle.size_counts.specs.Suffixes.{ArgumentsTold, NoneBut}
+use Rattle.size_counts.specs.Suffixes.{ArgumentsTold}
 use Rattle.size_counts.specs.Turns.{EachTold, NameTold}
 use Rattle.size_counts.proofs.Law.{recur}
 use Rattle.size_counts.proofs.ReachedLemmas.{children_here}

@@ -1,5 +1,5 @@
 -- What contracts see of the numbers of a class, as the pair that stores it.
-use Rattle.std.specs.Prelude.{◌≡◌, ℕ, refl}
+use Rattle.std.specs.Prelude.{ℕ, refl}
 use Rattle.std.specs.Coded.{Coded, code_by, coded×, coded_ℕ}
 use Rattle.well_founded.specs.Checked.{Checked}
 use Rattle.well_founded.specs.CheckedCode.{checked_code}

@@ -1,7 +1,6 @@
 -- What contracts see of the numbers of a class.
-use Rattle.std.specs.Prelude.{◌≡◌, ℕ, ◌+◌, ◌-◌, ◌≤◌, List, length, drop, find, Option, Some, None, Result, Ok, Err, slice_get}
+use Rattle.std.specs.Prelude.{◌≡◌, ℕ, Some, slice_get}
 use Rattle.std.specs.Option.{option_map_or}
-use Rattle.spec_syntax.specs.Expression.{Expression, expressions_of, Prod}
 use Rattle.spec_syntax.specs.Nodes.{node_at, arguments_at}
 use Rattle.spec_syntax.specs.Grammar.{Grammar}
 use Rattle.struct_model.specs.Bounded.{number}

@@ -1,12 +1,12 @@
 -- What is known of tables as they are filled, and once they are full.
-use Rattle.std.specs.Prelude.{◌≡◌, ℕ, ◌+◌, ◌≤◌, length, find, Option, Some, None, Result, Ok, Err}
+use Rattle.std.specs.Prelude.{◌≡◌, ℕ, ◌+◌, length, find, Option, Some, None, Result, Ok, Err}
 use Rattle.std.specs.List.{flat_map, range_with_len}
 use Rattle.well_founded.specs.Checked.{grammar}
 use Rattle.size_counts.specs.declared.place.CountFault.{CountFault}
 use Rattle.size_counts.specs.declared.place.CountFault.TheVariants.{TooLarge, Memory}
 use Rattle.size_counts.specs.declared.tables.Tables.{Tables}
 use Rattle.size_counts.specs.declared.counted.Counted.TheInside.{Inside}
-use Rattle.size_counts.specs.Numbers.{Spot, numbers_of_size, is_large_spot, place_of, first_large}
+use Rattle.size_counts.specs.Numbers.{Spot, numbers_of_size, is_large_spot, place_of}
 use Rattle.size_counts.specs.Reached.{AreReached}
 use Rattle.size_counts.specs.Tables.{Layer}
 use Rattle.size_counts.specs.Told.{IsLayer, AreTold}

@@ -1,5 +1,5 @@
 -- The numbers of a class at a size, and the first of them that is too large.
-use Rattle.std.specs.Prelude.{◌≡◌, ℕ, ◌+◌, ◌-◌, ◌*◌, ◌^◌, min, nat_le, Bool, true, false, List, [], ◌∷◌, map, drop, length, find, Option, Some, None, slice_get, unwrap_or, if◌then◌else◌}
+use Rattle.std.specs.Prelude.{◌≡◌, ℕ, ◌+◌, ◌-◌, ◌*◌, ◌^◌, min, nat_le, Bool, false, List, [], ◌∷◌, map, drop, length, find, Option, slice_get, unwrap_or, if◌then◌else◌}
 use Rattle.std.specs.Option.{option_map, option_map_or}
 use Rattle.std.specs.List.{flat_map, range_with_len}
 use Rattle.spec_syntax.specs.declared.expr.Kind.{Kind}

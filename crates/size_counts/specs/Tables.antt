@@ -1,6 +1,5 @@
 -- Tables of numbers: by size and by node the numbers of the node, in the order of their groups and indices.
-use Rattle.std.specs.Prelude.{◌≡◌, ℕ, ◌<◌, ◌≤◌, List, [], length, map, Option, Some, slice_get, unwrap_or}
-use Rattle.std.specs.Option.{option_map_or}
+use Rattle.std.specs.Prelude.{ℕ, List, [], map, Option, Some, slice_get, unwrap_or}
 
 abbrev pub Layer : Type 0
 Layer = List (List ℕ)

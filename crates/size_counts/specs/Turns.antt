@@ -3,8 +3,7 @@ use Rattle.std.specs.Prelude.{◌≡◌, ℕ, ◌-◌, List, [], length, map, Op
 use Rattle.std.specs.List.{range_with_len}
 use Rattle.spec_syntax.specs.declared.expr.Card.{Card}
 use Rattle.spec_syntax.specs.declared.expr.Kind.TheVariants as kind
-use Rattle.spec_syntax.specs.Expression.{Expression, Expressions, Many, expression_list}
-use Rattle.spec_syntax.specs.Rules.{all_nodes}
+use Rattle.spec_syntax.specs.Expression.{Expression, Many}
 use Rattle.spec_syntax.specs.Nodes.{node_at, below}
 use Rattle.spec_syntax.specs.Grammar.{Grammar}
 use Rattle.graphs.specs.Graph.{IsMarked}

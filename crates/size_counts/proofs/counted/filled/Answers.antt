@@ -1,4 +1,4 @@
-use Rattle.std.proofs.Common.{◌≡◌, ◌∙◌, ◌+◌, ap, sym, subst, arith, refl, ℕ, List, Option, None}
+use Rattle.std.proofs.Common.{arith, refl}
 use Rattle.size_counts.proofs.FilledLemmas.{if_err, fault_kept, filled_more}
 use Rattle.size_counts.proofs.counted.filled.Goals as goal
 

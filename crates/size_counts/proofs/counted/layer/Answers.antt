@@ -1,8 +1,7 @@
-use Rattle.std.proofs.Common.{◌≡◌, ◌∙◌, ◌<◌, ℕ, arith, ap, sym, subst, List, Option, Some, length, slice_get, refl}
+use Rattle.std.proofs.Common.{◌∙◌, ℕ, arith, sym, subst, List, Option, length}
 use Rattle.std.proofs.lemmas.Option.{slice_get_within}
 use Rattle.spec_syntax.specs.Rules.{all_nodes}
 use Rattle.size_counts.specs.Turns.{AreRows}
-use Rattle.size_counts.specs.Layers.{HaveNoNone}
 use Rattle.size_counts.proofs.LayerLemmas.{size_first, size_none, layer_kept, index_small}
 use Rattle.size_counts.proofs.counted.layer.Goals as goal
 

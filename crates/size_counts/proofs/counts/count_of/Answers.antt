@@ -1,4 +1,4 @@
-use Rattle.std.proofs.Common.{◌≡◌, ap, subst, arith, sym, ◌∙◌, refl, Result, Ok, Err, ℕ, Option, Some, inl, inr}
+use Rattle.std.proofs.Common.{◌≡◌, ap, subst, sym, ◌∙◌, refl, Result, Ok, Err, Some, inl, inr}
 use Rattle.std.specs.Result.{IfOk}
 use Rattle.spec_syntax.specs.Expression.{Expression}
 use Rattle.spec_syntax.specs.Nodes.{children_at}

@@ -1,4 +1,4 @@
-use Rattle.std.proofs.Common.{◌≡◌, ◌≤◌, ℕ, length, arith, sym, ◌∙◌}
+use Rattle.std.proofs.Common.{arith, sym, ◌∙◌}
 use Rattle.std.proofs.lemmas.Option.{slice_get-get_or}
 use Rattle.size_counts.proofs.CountLemmas.{longer_there, sequence_taken, sequence_passed, sequence_all}
 use Rattle.size_counts.proofs.counts.sequence_count.Goals as goal

@@ -1,4 +1,4 @@
-use Rattle.std.proofs.Common.{◌≡◌, sym, ◌∙◌, subst, rules, List, Option, ℕ, Some, replicate}
+use Rattle.std.proofs.Common.{◌≡◌, sym, subst, rules, List, Option, ℕ, Some, replicate}
 use Rattle.size_counts.specs.Told.{TellNow}
 use Rattle.size_counts.proofs.FillLemmas.{tell_zeros}
 use Rattle.size_counts.proofs.fill.counts.Goals as goal

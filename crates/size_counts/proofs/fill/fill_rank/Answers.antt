@@ -1,8 +1,8 @@
-use Rattle.std.proofs.Common.{◌≡◌, ◌+◌, sym, ◌∙◌, subst, ap, arith, true, false, true≢false, List, Option, Some, ℕ}
+use Rattle.std.proofs.Common.{◌≡◌, ◌+◌, sym, ◌∙◌, subst, ap, arith, List, Option, Some, ℕ}
 use Rattle.graphs.proofs.Marks.{mark_or_none}
 use Rattle.graphs.proofs.Reached.{marked_within}
 use Rattle.size_counts.proofs.ReachedLemmas.{at_read}
-use Rattle.size_counts.proofs.FillLemmas.{TellSoFar, so_far_none, so_far_pass, so_far_more, so_far_all}
+use Rattle.size_counts.proofs.FillLemmas.{TellSoFar, so_far_pass, so_far_more, so_far_all}
 use Rattle.size_counts.proofs.fill.fill_rank.Goals as goal
 use Rattle.size_counts.proofs.fill.fill_rank.Goals.{then-index+then-rank+in_ok-now, else-index, else-index-via-then-index+else-rank, else-index-via-else-index}
 

@@ -1,4 +1,3 @@
-use Rattle.std.proofs.Common.{arith}
 use Rattle.std.proofs.lemmas.Option.{slice_get-get_or}
 use Rattle.size_counts.proofs.LayerLemmas.{exact_step}
 use Rattle.size_counts.proofs.layer.exact.Goals as goal

@@ -1,5 +1,4 @@
-use Rattle.std.proofs.Common.{arith, ◌∙◌, ◌≡◌, ap, length}
-use Rattle.size_counts.specs.Reached.{below_graph}
+use Rattle.std.proofs.Common.{arith, ◌∙◌, ap, length}
 use Rattle.size_counts.proofs.ReachedLemmas.{is_graph_by, length_by, reached_by}
 use Rattle.size_counts.proofs.reached.reached_from.Goals as goal
 

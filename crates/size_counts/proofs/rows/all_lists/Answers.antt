@@ -1,4 +1,4 @@
-use Rattle.std.proofs.Common.{◌≡◌, ap, subst, arith, sym, ◌∙◌, ℕ, Some, Option, List}
+use Rattle.std.proofs.Common.{◌≡◌, subst, arith, sym, ◌∙◌, Some}
 use Rattle.std.proofs.lemmas.Option.{slice_get-get_or}
 use Rattle.spec_syntax.specs.Expression.{Expression, Many}
 use Rattle.spec_syntax.specs.declared.expr.Kind.TheVariants.{Sequence}

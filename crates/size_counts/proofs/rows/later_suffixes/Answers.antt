@@ -1,4 +1,4 @@
-use Rattle.std.proofs.Common.{◌≡◌, ap, subst, arith, sym, ◌∙◌, ℕ, Some, false}
+use Rattle.std.proofs.Common.{ap, subst, arith, sym, ◌∙◌, Some, false}
 use Rattle.spec_syntax.specs.Expression.{Expression}
 use Rattle.well_founded.specs.declared.node.NodeKind.TheVariants as told
 use Rattle.well_founded.specs.Checked.{grammar}

@@ -1,4 +1,4 @@
-use Rattle.std.proofs.Common.{◌≡◌, ap, subst, arith, sym, ◌∙◌, ℕ, Some, Option, List, inl, inr, refl}
+use Rattle.std.proofs.Common.{ap, ◌∙◌, inl, inr}
 use Rattle.well_founded.specs.Checked.{grammar}
 use Rattle.size_counts.proofs.CountLemmas.{kind_here, no_other, is_other}
 use Rattle.size_counts.proofs.RowLemmas.{no_others, is_plain, tell_all_by}

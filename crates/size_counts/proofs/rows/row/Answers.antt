@@ -1,8 +1,7 @@
-use Rattle.std.proofs.Common.{◌≡◌, ◌++◌, ◌∷◌, [], ap, subst, arith, sym, ◌∙◌, ℕ, Some, Option, List}
+use Rattle.std.proofs.Common.{◌++◌, ap, arith, ◌∙◌, ℕ, Some, Option, List}
 use Rattle.std.proofs.lemmas.Option.{slice_get-get_or}
 use Rattle.graphs.proofs.Marks.{mark_or_none}
 use Rattle.graphs.proofs.Reached.{marked_within}
-use Rattle.well_founded.specs.Checked.{grammar}
 use Rattle.size_counts.proofs.ReachedLemmas.{at_read}
 use Rattle.size_counts.proofs.RowLemmas.{all_told, tell_first, first_and_others, tell_all_by}
 use Rattle.size_counts.proofs.rows.row.Goals as goal

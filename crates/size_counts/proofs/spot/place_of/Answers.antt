@@ -1,4 +1,4 @@
-use Rattle.std.proofs.Common.{◌≡◌, arith, ap, ◌∙◌, refl, sym}
+use Rattle.std.proofs.Common.{arith, ap, ◌∙◌, refl, sym}
 use Rattle.spec_syntax.proofs.RulesLemmas.{all_nodes-from_spec}
 use Rattle.size_counts.specs.Spots.{group_at, index_at}
 use Rattle.well_founded.specs.Checked.{grammar}

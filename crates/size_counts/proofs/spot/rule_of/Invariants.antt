@@ -1,4 +1,4 @@
-use Rattle.std.proofs.Common.{◌≡◌, ◌⊎◌, ◌+◌, ◌≤◌, ◌<◌, ℕ, length}
+use Rattle.std.proofs.Common.{◌≡◌, ◌⊎◌, ◌≤◌, ℕ}
 use Rattle.spec_syntax.specs.Nodes.{right_node}
 use Rattle.size_counts.proofs.spot.rule_of.Given as goal
 

@@ -1,4 +1,4 @@
-use Rattle.std.proofs.Common.{◌≡◌, ◌+◌, ◌≤◌, ◌-◌, ap, sym, ◌∙◌, subst, arith, ℕ, List, Option, length}
+use Rattle.std.proofs.Common.{◌≡◌, ◌-◌, sym, ◌∙◌, subst, arith, ℕ, List, Option, length}
 use Rattle.std.proofs.lemmas.Option.{slice_get-get_or}
 use Rattle.spec_syntax.specs.Expression.{expression_list}
 use Rattle.well_founded.specs.Checked.{grammar}

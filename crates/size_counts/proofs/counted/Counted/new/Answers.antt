@@ -1,4 +1,4 @@
-use Rattle.std.proofs.Common.{◌≡◌, ◌∙◌, ap, arith, length}
+use Rattle.std.proofs.Common.{◌∙◌, ap, arith, length}
 use Rattle.size_counts.proofs.FilledLemmas.{told_start, can_split_none}
 use Rattle.size_counts.proofs.counted.Counted.new.Goals as goal
 
