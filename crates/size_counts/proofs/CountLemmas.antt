@@ -1,9 +1,9 @@
 -- The count of a node by those of the nodes below it.
-use Rattle.std.proofs.Common.{◌≡◌, ℕ, zero, suc, ◌+◌, ◌-◌, ◌<◌, ◌≤◌, min, Bool, true, false, true≢false, List, [], ◌∷◌, length, map, take, Option, Some, None, slice_get, refl, sym, ap, ◌∙◌, subst, arith, IsTrue}
+use Rattle.std.proofs.Common.{◌≡◌, ℕ, zero, suc, ◌+◌, ◌-◌, ◌<◌, ◌≤◌, min, Bool, true, false, true≢false, List, [], ◌∷◌, length, map, take, Option, Some, None, slice_get, refl, sym, ap, ◌∙◌, subst, inl, inr, arith, IsTrue}
 use Rattle.std.specs.Prelude.{◌&&◌, nat_le, if◌then◌else◌}
 use Rattle.std.specs.List.{sum, range_with_len, list_all}
 use Rattle.std.specs.Option.{option_map, option_map_or, option_and_then}
-use Rattle.std.proofs.lemmas.Bool.{leb-true, and_parts}
+use Rattle.std.proofs.lemmas.Bool.{cases_lt, leb-true, and_parts}
 use Rattle.std.proofs.lemmas.List.{take_all, nil_from_length}
 use Rattle.std.proofs.lemmas.List.FromFn.{sum_by-map-range_with_len_more, length-map-range_with_len}
 use Rattle.lists.proofs.Positions.{slice_some}
@@ -15,6 +15,7 @@ use Rattle.spec_syntax.specs.Card.{admits, is_within}
 use Rattle.spec_syntax.specs.Expression as expr
 use Rattle.spec_syntax.specs.Expression.{Expression, Expressions, expression_list, expressions_of, is_sequence_at_most}
 use Rattle.spec_syntax.specs.Rules.{Rules, all_nodes, symbol, right_side, are_sequences}
+use Rattle.spec_syntax.specs.Grammar.{Grammar}
 use Rattle.spec_syntax.specs.Nodes.{node_at, name_at, name_of, card_at, children_at, children_of, arguments_at, arguments_of, below, right_node}
 use Rattle.spec_syntax.proofs.NodesLemmas.{in_nodes, length-children_of}
 use Rattle.struct_model.specs.Bounded.{number}
@@ -26,17 +27,13 @@ use Rattle.well_founded.specs.Checked.{Checked, IsChecked, grammar}
 use Rattle.listing_laws.specs.Numbers.{one_at}
 use Rattle.splits.specs.Capped.{Tells}
 use Rattle.size_counts.specs.Numbers.{list_number, most_components}
-use Rattle.size_counts.specs.Suffixes.{SuffixesTold}
+use Rattle.size_counts.specs.Suffixes.{FirstsTold, AreBegun}
 use Rattle.size_counts.specs.Turns.{EachTold, NameTold, LongerTold, word_size}
 use Rattle.size_counts.proofs.Law.{recur}
 use Rattle.size_counts.proofs.ReachedLemmas.{take_one, told_name}
 use Rattle.size_counts.proofs.TableLemmas.{made_at}
 use Rattle.size_counts.proofs.ListLemmas.{tells_by, card_same}
 use Rattle.size_counts.proofs.SuffixLemmas.{again}
-
-some_length : (items : List (Option ℕ)) → (items ≡ [] → ⊥) → 0 < length items
-some_length [] some = absurd (some refl)
-some_length (first ∷ items) some = omega arith
 
 -- a Sequence and its bound
 pub sequence_there : (found : Option Expression) → option_map kind_of found ≡ Some told.Sequence → (element : Expression) × (card : Card) × (found ≡ Some (expr.Many kind.Sequence element card))
@@ -184,18 +181,29 @@ module _ (checked : Checked) (is_checked : IsChecked checked) (node m : ℕ) (no
         ∙ sym (recur.sequence (grammar checked) element card m is_checked.spec is_checked.well_founded (in_nodes checked.rules node _ at)))
         so_far
 
-  -- a Prod, from its suffixes
-  pub prod_empty : (arguments : Expressions) (zeros : ℕ → Bool) (made : List (Option ℕ)) (told : Option ℕ) → SuffixesTold (grammar checked) arguments m zeros (length (expression_list arguments)) made → made ≡ []
-      → Tells told (one_at 0 m) → Tells told (number (grammar checked) (expr.Prod arguments) m)
-  prod_empty arguments zeros made told all empty is =
-      let none : expression_list arguments ≡ [] = nil_from_length (expression_list arguments) (sym all.for_each ∙ ap (λ (items : List (Option ℕ)). length items) empty) in
-      tells_by told _ _ (sym (ap (λ (es : Expressions). number (grammar checked) (expr.Prod es) m) (sym (again arguments) ∙ ap expressions_of none) ∙ recur.no_components (grammar checked) m)) is
+-- ---- a Prod, from its first suffixes
 
-  pub prod_last : (arguments : Expressions) (zeros : ℕ → Bool) (made : List (Option ℕ)) (told : Option ℕ) (p : ℕ) → SuffixesTold (grammar checked) arguments m zeros (length (expression_list arguments)) made
-      → (made ≡ [] → ⊥) → p ≡ length made - 1 → slice_get made p ≡ Some told → Tells told (number (grammar checked) (expr.Prod arguments) m)
-  prod_last arguments zeros made told p all some last there =
-      tells_by told _ _ (ap (λ (es : Expressions). number (grammar checked) (expr.Prod es) m) (again arguments))
-      (all.each p 1 told (omega (arith, last, all.for_each, some_length made some)) there (λ k below. absurd (omega arith)))
+pub prod_found : (found : Option Expression) → option_map kind_of found ≡ Some told.Prod → (arguments : Expressions) × (found ≡ Some (expr.Prod arguments))
+prod_found None is = absurd (cc)
+prod_found (Some expr.Epsilon) is = absurd (cc)
+prod_found (Some expr.Atom) is = absurd (cc)
+prod_found (Some (expr.Name name)) is = absurd (cc)
+prod_found (Some (expr.Union es)) is = absurd (cc)
+prod_found (Some (expr.Prod es)) is = (es, refl)
+prod_found (Some (expr.Many kind.Sequence e card)) is = absurd (cc)
+prod_found (Some (expr.Many kind.Set e card)) is = absurd (cc)
+prod_found (Some (expr.Many kind.PowerSet e card)) is = absurd (cc)
+prod_found (Some (expr.Many kind.Cycle e card)) is = absurd (cc)
+
+pub prod_empty : (g : Grammar) (arguments : Expressions) (m : ℕ) (firsts : List (Option ℕ)) (told : Option ℕ) → AreBegun arguments firsts → length firsts ≡ 0 → Tells told (one_at 0 m) → Tells told (number g (expr.Prod arguments) m)
+prod_empty g arguments m firsts told begun short is =
+    let none : expression_list arguments ≡ [] = nil_from_length (expression_list arguments) (elim (cases_lt 0 (length (expression_list arguments))) [ inl some ↦ absurd (omega (arith, begun some, short)) | inr over ↦ omega (arith, over) ]) in
+    tells_by told _ _ (sym (ap (λ (es : Expressions). number g (expr.Prod es) m) (sym (again arguments) ∙ ap expressions_of none) ∙ recur.no_components g m)) is
+
+pub prod_last : (g : Grammar) (arguments : Expressions) (m : ℕ) (firsts : List (Option ℕ)) (told : Option ℕ) (p : ℕ) → FirstsTold g arguments m firsts → 0 < length firsts → p ≡ length firsts - 1
+    → slice_get firsts p ≡ Some told → Tells told (number g (expr.Prod arguments) m)
+prod_last g arguments m firsts told p all some last there =
+    tells_by told _ _ (ap (λ (es : Expressions). number g (expr.Prod es) m) (again arguments)) (all.each p 1 told (omega (arith, last, some)) there)
 
 -- ---- names
 

@@ -1,23 +1,29 @@
 -- The counts at a size, filled in by rising rank.
 use Rattle.std.proofs.Common.{◌≡◌, ℕ, ◌+◌, ◌<◌, ◌≤◌, Bool, List, [], ◌∷◌, ◌++◌, length, replicate, Option, Some, None, slice_get, refl, sym, ap, ◌∙◌, subst, inl, inr, arith}
+use Rattle.std.specs.Option.{option_map}
 use Rattle.std.proofs.Math.ListN.{set}
 use Rattle.std.proofs.lemmas.Bool.{cases_lt}
 use Rattle.std.proofs.lemmas.List.{length_push, length-set, length-replicate}
 use Rattle.std.proofs.lemmas.Option.{slice_get_within}
 use Rattle.lists.proofs.Places.{pushed_at}
-use Rattle.spec_syntax.specs.Expression.{Expression}
+use Rattle.spec_syntax.specs.Expression.{Expression, Expressions, Prod}
 use Rattle.spec_syntax.specs.Rules.{all_nodes}
 use Rattle.spec_syntax.specs.Nodes.{node_at}
 use Rattle.spec_syntax.proofs.NodesLemmas.{in_nodes}
 use Rattle.graphs.specs.Graph.{IsMarked}
 use Rattle.struct_model.specs.Bounded.{number}
+use Rattle.well_founded.specs.declared.node.NodeKind.{NodeKind}
+use Rattle.well_founded.specs.declared.node.NodeKind.TheVariants as told
+use Rattle.well_founded.specs.NodeKinds.{kind_of}
 use Rattle.well_founded.specs.Checked.{Checked, IsChecked, grammar}
 use Rattle.splits.specs.Capped.{Tells}
 use Rattle.size_counts.specs.declared.tables.Tables.{Tables}
 use Rattle.size_counts.specs.Told.{TellNow}
-use Rattle.size_counts.specs.Turns.{LongerTold, AreLonger}
+use Rattle.size_counts.specs.Suffixes.{FirstsTold}
+use Rattle.size_counts.specs.Turns.{LongerTold, BesideTold, AreBeside}
 use Rattle.size_counts.proofs.Law.{recur}
 use Rattle.size_counts.proofs.SumLemmas.{set_at, zeros_at}
+use Rattle.size_counts.proofs.SuffixLemmas.{firsts_none}
 
 -- of lower rank, of a least size above m, or of this rank and below node n
 pub record TellSoFar (checked : Checked) (marks : List Bool) (m r n : ℕ) (now : List (Option ℕ)) : Type 0 where
@@ -91,18 +97,47 @@ tell_zeros checked marks m n is_checked same = record {
         recur.below_least (grammar checked) e least m is_checked.spec is_checked.well_founded (in_nodes checked.rules node e at) (is_checked.least.each node least e at least_is) small in
         subst (λ (k : ℕ). Tells (Some 0) k) (sym none) (refl, omega arith)
 
--- ---- the longer lists of each node
+-- ---- what is told beside the count of each node
 
-pub longer_none : (tables : Tables) (m : ℕ) → AreLonger tables m 0 []
-longer_none tables m = record { for_each = refl; each = λ node one there marked. let wrong : ◌≡◌ {A = Option (List (Option ℕ))} None (Some one) = there in absurd (cc) }
+-- where nothing is, no Sequence has longer lists
+pub beside_nothing : (checked : Checked) (node m : ℕ) (kind : NodeKind) → option_map kind_of (node_at checked.rules node) ≡ Some kind → (kind ≡ told.Sequence → ⊥) → BesideTold checked node m []
+beside_nothing checked node m kind is other = record {
+  longer = λ element card at. absurd (other (let same : Some told.Sequence ≡ Some kind = sym (ap (option_map kind_of) at) ∙ is in cc));
+  firsts = λ arguments at. firsts_none (grammar checked) arguments m;
+}
 
-pub longer_more : (tables : Tables) (m n : ℕ) (longer more : List (List (Option ℕ))) (one : List (Option ℕ)) → AreLonger tables m n longer → more ≡ longer ++ one ∷ []
-    → (IsMarked tables.marks.items n → LongerTold tables.grammar n m one) → AreLonger tables m (n + 1) more
-longer_more tables m n longer more one before pushed is = subst (λ (items : List (List (Option ℕ))). AreLonger tables m (n + 1) items) (sym pushed) (record {
-  for_each = length_push longer one ∙ ap (λ (k : ℕ). k + 1) before.for_each;
-  each = λ node other there marked. elim (pushed_at longer one node other there) [
+pub beside_longer : (checked : Checked) (node m : ℕ) (longer : List (Option ℕ)) → option_map kind_of (node_at checked.rules node) ≡ Some told.Sequence → LongerTold checked node m longer → BesideTold checked node m longer
+beside_longer checked node m longer is more = record {
+  longer = more;
+  firsts = λ arguments at. let same : Some told.Prod ≡ Some told.Sequence = sym (ap (option_map kind_of) at) ∙ is in absurd (cc);
+}
+
+pub beside_firsts : (checked : Checked) (node m : ℕ) (firsts : List (Option ℕ)) → option_map kind_of (node_at checked.rules node) ≡ Some told.Prod
+    → ((arguments : Expressions) → node_at checked.rules node ≡ Some (Prod arguments) → FirstsTold (grammar checked) arguments m firsts) → BesideTold checked node m firsts
+beside_firsts checked node m firsts is all = record {
+  longer = λ element card at. let same : Some told.Sequence ≡ Some told.Prod = sym (ap (option_map kind_of) at) ∙ is in absurd (cc);
+  firsts = all;
+}
+
+pub beside_none : (tables : Tables) (m : ℕ) → AreBeside tables m 0 []
+beside_none tables m = record { for_each = refl; each = λ node one there marked. let wrong : ◌≡◌ {A = Option (List (Option ℕ))} None (Some one) = there in absurd (cc) }
+
+pub beside_more : (tables : Tables) (m n : ℕ) (beside more : List (List (Option ℕ))) (one : List (Option ℕ)) → AreBeside tables m n beside → more ≡ beside ++ one ∷ []
+    → (IsMarked tables.marks.items n → BesideTold tables.grammar n m one) → AreBeside tables m (n + 1) more
+beside_more tables m n beside more one before pushed is = subst (λ (items : List (List (Option ℕ))). AreBeside tables m (n + 1) items) (sym pushed) (record {
+  for_each = length_push beside one ∙ ap (λ (k : ℕ). k + 1) before.for_each;
+  each = λ node other there marked. elim (pushed_at beside one node other there) [
     | inl earlier ↦ before.each node other earlier marked
     | inr here ↦ let same : node ≡ n = here.0 ∙ before.for_each in
-        subst (λ (k : ℕ). LongerTold tables.grammar k m other) (sym same) (subst (λ (items : List (Option ℕ)). LongerTold tables.grammar n m items) (sym here.1) (is (subst (λ (k : ℕ). IsMarked tables.marks.items k) same marked)))
+        subst (λ (k : ℕ). BesideTold tables.grammar k m other) (sym same) (subst (λ (items : List (Option ℕ)). BesideTold tables.grammar n m items) (sym here.1) (is (subst (λ (k : ℕ). IsMarked tables.marks.items k) same marked)))
   ];
 })
+
+pub beside_set : (tables : Tables) (m n node : ℕ) (beside : List (List (Option ℕ))) (one : List (Option ℕ)) → AreBeside tables m n beside → BesideTold tables.grammar node m one → AreBeside tables m n (set beside node one)
+beside_set tables m n node beside one before is = record {
+  for_each = length-set beside node one ∙ before.for_each;
+  each = λ k other there marked. elim (set_at beside node k one other there) [
+    | inl here ↦ subst (λ (j : ℕ). BesideTold tables.grammar j m other) (sym here.0) (subst (λ (items : List (Option ℕ)). BesideTold tables.grammar node m items) (sym here.1) is)
+    | inr earlier ↦ before.each k other earlier.1 marked
+  ];
+}

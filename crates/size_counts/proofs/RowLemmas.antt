@@ -1,5 +1,6 @@
 -- All numbers of a node at a size.
 use Rattle.std.proofs.Common.{◌≡◌, ℕ, zero, suc, ◌+◌, ◌-◌, ◌<◌, ◌≤◌, Bool, true, false, true≢false, List, [], ◌∷◌, ◌++◌, length, map, Option, Some, slice_get, refl, sym, ap, ◌∙◌, subst, inl, inr, arith}
+use Rattle.std.specs.Option.{option_map}
 use Rattle.std.specs.List.{range_with_len}
 use Rattle.std.proofs.lemmas.List.{length_push}
 use Rattle.std.proofs.lemmas.Option.{slice_get_within}
@@ -24,13 +25,14 @@ use Rattle.size_counts.specs.declared.tables.Tables.{Tables}
 use Rattle.size_counts.specs.Numbers.{Numbered, numbers_at, others_at, list_number, suffix_number, most_components}
 use Rattle.size_counts.specs.Tables.{Layer}
 use Rattle.size_counts.specs.Told.{values, AreTold, TellAll, TellNow}
-use Rattle.size_counts.specs.Suffixes.{ArgumentsTold, SuffixesTold}
-use Rattle.size_counts.specs.Turns.{LongerTold, AreRows}
+use Rattle.size_counts.specs.Suffixes.{ArgumentsTold, SuffixesTold, NoneBelow}
+use Rattle.size_counts.specs.Turns.{LongerTold, BesideTold, AreRows}
 use Rattle.size_counts.proofs.Law.{recur}
 use Rattle.size_counts.proofs.ReachedLemmas.{children_here}
 use Rattle.size_counts.proofs.TableLemmas.{tell_none, tell_made}
 use Rattle.size_counts.proofs.ListLemmas.{tells_by, card_same, element_marked, element_there}
-use Rattle.size_counts.proofs.SuffixLemmas.{child_marked}
+use Rattle.size_counts.proofs.SuffixLemmas.{child_marked, arguments_count, with_firsts}
+use Rattle.size_counts.proofs.CountLemmas.{prod_found}
 
 pub tell_first : (told : List (Option ℕ)) (numbers : List ℕ) (one : Option ℕ) (n : ℕ) → Tells one n → TellAll told numbers → TellAll (one ∷ told) (n ∷ numbers)
 tell_first told numbers one n is all = record { for_each = ap suc all.for_each; each = each }
@@ -67,7 +69,28 @@ all_arguments checked marks layers told_tables m node now es now_told marked at 
       (child_node checked.rules node (expr.Prod es) k child at place ∙ there) now_at;
 }
 
-pub suffixes_more : (g : Grammar) (es : Expressions) (m earlier p : ℕ) (reversed made more : List (Option ℕ)) (one : Option ℕ) → SuffixesTold g es m (λ k. false) (length (expression_list es)) reversed
+-- the suffixes that are made late and those that were told first are all of them
+pub all_suffixes : (checked : Checked) (marks : List Bool) (layers : List Layer) → AreTold checked marks layers → (m node : ℕ) (now : List (Option ℕ)) (es : Expressions)
+    → TellNow checked marks m (length (all_nodes checked.rules)) now → IsMarked marks node → node_at checked.rules node ≡ Some (expr.Prod es) → (low high : ℕ) (late firsts all : List (Option ℕ))
+    → high ≡ length (children_at checked.rules node) → low ≡ length firsts → BesideTold checked node m firsts
+    → ((arguments : Expressions) (zero : ℕ → Bool) → node_at checked.rules node ≡ Some (expr.Prod arguments) → ArgumentsTold (grammar checked) arguments (children_at checked.rules node) now m zero
+    → (high < length (expression_list arguments) → NoneBelow zero high → ⊥) → SuffixesTold (grammar checked) arguments m zero high (high - low) late)
+    → all ≡ late ++ firsts → SuffixesTold (grammar checked) es m (λ k. false) (length (expression_list es)) (length (expression_list es)) all
+all_suffixes checked marks layers told_tables m node now es now_told marked at low high late firsts all high_is low_is beside late_told whole =
+    subst (λ (n : ℕ). SuffixesTold (grammar checked) es m (λ k. false) n n all) every
+    (with_firsts (grammar checked) es m (λ k. false) high low (high - low) late firsts all
+    (late_told es (λ k. false) at (all_arguments checked marks layers told_tables m node now es now_told marked at) (λ less none. absurd (omega (arith, less, every))))
+    (beside.firsts es at) (omega arith) low_is (omega (arith, low_is, every, (beside.firsts es at).within)) whole)
+  where
+    every : high ≡ length (expression_list es)
+    every = high_is ∙ arguments_count checked.rules node es at
+
+-- there are at most as many first ones as arguments
+pub firsts_within : (checked : Checked) (node m : ℕ) (firsts : List (Option ℕ)) → option_map kind_of (node_at checked.rules node) ≡ Some told.Prod → BesideTold checked node m firsts → length firsts ≤ length (children_at checked.rules node)
+firsts_within checked node m firsts is beside =
+    let prod = prod_found (node_at checked.rules node) is in omega (arith, (beside.firsts prod.0 prod.1).within, arguments_count checked.rules node prod.0 prod.1)
+
+pub suffixes_more : (g : Grammar) (es : Expressions) (m earlier p : ℕ) (reversed made more : List (Option ℕ)) (one : Option ℕ) → SuffixesTold g es m (λ k. false) (length (expression_list es)) (length (expression_list es)) reversed
     → p ≡ length reversed - 2 - earlier → earlier < length reversed - 1 → slice_get reversed p ≡ Some one → more ≡ made ++ one ∷ []
     → TellAll made (map (λ i. suffix_number g (expression_list es) i m) (range_with_len 2 earlier)) → TellAll more (map (λ i. suffix_number g (expression_list es) i m) (range_with_len 2 (earlier + 1)))
 suffixes_more g es m earlier p reversed made more one all place within there pushed so_far =
@@ -75,7 +98,7 @@ suffixes_more g es m earlier p reversed made more one all place within there pus
     (tell_made (λ i. suffix_number g (expression_list es) i m) made one 2 earlier (earlier + 2) (omega arith) so_far
     (all.each p (earlier + 2) one (omega (arith, all.for_each)) there (λ k below. refl)))
 
-pub suffixes_all : (g : Grammar) (es : Expressions) (m earlier : ℕ) (reversed made : List (Option ℕ)) → SuffixesTold g es m (λ k. false) (length (expression_list es)) reversed → earlier ≡ length reversed - 1
+pub suffixes_all : (g : Grammar) (es : Expressions) (m earlier : ℕ) (reversed made : List (Option ℕ)) → SuffixesTold g es m (λ k. false) (length (expression_list es)) (length (expression_list es)) reversed → earlier ≡ length reversed - 1
     → TellAll made (map (λ i. suffix_number g (expression_list es) i m) (range_with_len 2 earlier)) → TellAll made (values (others_at g (expr.Prod es) m))
 suffixes_all g es m earlier reversed made all same so_far =
     subst (λ (numbers : List ℕ). TellAll made numbers)

@@ -1,14 +1,18 @@
 -- The numbers of a Prod from each argument on.
-use Rattle.std.proofs.Common.{◌≡◌, ◌⊎◌, ℕ, zero, suc, ◌+◌, ◌-◌, ◌*◌, ◌<◌, ◌≤◌, Bool, true, false, List, [], ◌∷◌, ◌++◌, length, take, drop, Option, Some, None, slice_get, unwrap_or, refl, sym, ap, ◌∙◌, subst, inl, inr, arith, append_assoc, length-drop}
+use Rattle.std.proofs.Common.{◌≡◌, ◌⊎◌, ℕ, zero, suc, ◌+◌, ◌-◌, ◌*◌, ◌<◌, ◌≤◌, Bool, true, false, true≢false, List, [], ◌∷◌, ◌++◌, length, take, drop, Option, Some, None, slice_get, unwrap_or, refl, sym, ap, ◌∙◌, subst, inl, inr, arith, append_assoc, length-append, length-drop}
 use Rattle.std.specs.List.{sum}
-use Rattle.std.specs.Option.{option_map_or}
+use Rattle.std.specs.Prelude.{nat_le}
+use Rattle.std.specs.Option.{option_map_or, option_and_then}
 use Rattle.std.proofs.lemmas.Bool.{cases_lt}
+use Rattle.std.proofs.lemmas.Bool.Decides.{nat_tests}
 use Rattle.std.proofs.lemmas.List.{length_push, take-append-drop, nil_from_length}
+use Rattle.std.proofs.lemmas.Option.{slice_get_within}
 use Rattle.lists.specs.Enumeration.{IsIn}
-use Rattle.lists.proofs.Places.{pushed_at, drop_at}
+use Rattle.lists.proofs.Places.{pushed_at, drop_at, get_either}
 use Rattle.lists.proofs.Positions.{slice_some}
 use Rattle.spec_syntax.specs.declared.statement.Universe.{Universe}
 use Rattle.spec_syntax.specs.Expression as expr
+use Rattle.spec_syntax.specs.Grammar.{Grammar}
 use Rattle.spec_syntax.specs.Expression.{Expression, Expressions, no_expressions, more_expressions, expression_list, expressions_of}
 use Rattle.spec_syntax.specs.Rules.{Rules, all_nodes}
 use Rattle.spec_syntax.specs.Nodes.{node_at, children_at, arguments_at, children_of, arguments_of}
@@ -23,7 +27,7 @@ use Rattle.size_counts.specs.Tables.{Layer, column}
 use Rattle.size_counts.specs.Numbers.{numbers_at, suffix_number}
 use Rattle.size_counts.specs.Told.{values, AreTold}
 use Rattle.size_counts.specs.Sums.{ProductTold, ProductsTold}
-use Rattle.size_counts.specs.Suffixes.{IsNothing, NoneBelow, NoneBut, ArgumentsTold, SuffixesTold, OthersTold}
+use Rattle.size_counts.specs.Suffixes.{IsNothing, NoneBelow, NoneBut, ArgumentsTold, SuffixesTold, OthersTold, AreUpToFirst, FirstsTold, needs_atoms}
 use Rattle.size_counts.proofs.Law.{recur}
 use Rattle.size_counts.proofs.SumLemmas.{joined_more}
 use Rattle.size_counts.proofs.TableLemmas.{entry_told, last_entry, length_column, suffix_value}
@@ -123,6 +127,54 @@ later_or_none zeros i (suc n) = by (zeros (i + n)) refl (later_or_none zeros i n
     ])
 
 module _ (checked : Checked) (marks : List Bool) (layers : List Layer) (told : AreTold checked marks layers) (node : ℕ) (arguments : Expressions)
+    (marked : IsMarked marks node) (at : node_at checked.rules node ≡ Some (expr.Prod arguments)) (m : ℕ) (zeros : ℕ → Bool) (filled : length layers ≡ m) where
+  -- what stands at index k among the numbers of the Prod
+  value_at : (k d : ℕ) → k < length (expression_list arguments)
+      → unwrap_or (slice_get (values (numbers_at (grammar checked) (expr.Prod arguments) d)) k) 0 ≡ number (grammar checked) (expr.Prod (expressions_of (drop k (expression_list arguments)))) d
+  value_at zero d within = ap (λ (es : Expressions). number (grammar checked) (expr.Prod es) d) (sym (again arguments))
+  value_at (suc j) d within =
+      ap (λ (found : Option ℕ). unwrap_or found 0) (ap (slice_get (values (numbers_at (grammar checked) (expr.Prod arguments) d))) (back j) ∙ suffix_value (grammar checked) arguments d (suc (suc j)) (omega arith) (omega arith))
+      ∙ ap (λ (k : ℕ). number (grammar checked) (expr.Prod (expressions_of (drop k (expression_list arguments)))) d) (sym (back j))
+    where
+      back : (j : ℕ) → suc j ≡ suc (suc j) - 1
+      back j = omega arith
+
+  -- the column for the next step
+  pub others_step : (k : ℕ) (sum : Option ℕ) (others : List (Option ℕ)) → k < length (expression_list arguments) → others ≡ column layers node k ++ sum ∷ []
+      → (NoneBelow zeros k → Tells sum (number (grammar checked) (expr.Prod (expressions_of (drop k (expression_list arguments)))) m)) → OthersTold (grammar checked) arguments m zeros k others
+  others_step k sum others within same sum_told = record {
+    for_each = ap (λ (all : List (Option ℕ)). length all) same ∙ length_column layers node k sum ∙ ap (λ (n : ℕ). n + 1) filled;
+    each = λ d one low there may. here d one low (subst (λ (all : List (Option ℕ)). slice_get all d ≡ Some one) same there) may (cases_lt d m);
+  }
+    where
+      here : (d : ℕ) (one : Option ℕ) → d ≤ m → slice_get (column layers node k ++ sum ∷ []) d ≡ Some one → (d < m) ⊎ NoneBelow zeros k → (d < m) ⊎ (m ≤ d)
+          → Tells one (number (grammar checked) (expr.Prod (expressions_of (drop k (expression_list arguments)))) d)
+      here d one low there may (inl below) =
+          tells_by one _ _ (value_at k d within) (entry_told checked marks layers told node (expr.Prod arguments) marked at k sum d one (omega (arith, filled)) there)
+      here d one low there (inl below) (inr past) = absurd (omega arith)
+      here d one low there (inr before) (inr past) =
+          let end : d ≡ m = omega arith in
+          let is : one ≡ sum = last_entry layers node k sum d one (end ∙ sym filled) there in
+          subst (λ (o : Option ℕ). Tells o (number (grammar checked) (expr.Prod (expressions_of (drop k (expression_list arguments)))) d)) (sym is)
+          (tells_by sum _ _ (ap (number (grammar checked) (expr.Prod (expressions_of (drop k (expression_list arguments))))) (sym end)) (sum_told before))
+
+  -- behind the last argument
+  pub others_first : (others : List (Option ℕ)) → IsNothing m others → OthersTold (grammar checked) arguments m zeros (length (expression_list arguments)) others
+  others_first others nothing = record {
+    for_each = nothing.for_each;
+    each = λ d one low there may. tells_by one _ _ (sym (ap (λ (es : List Expression). number (grammar checked) (expr.Prod (expressions_of es)) d) none ∙ recur.no_components (grammar checked) d)) (nothing.each d one there);
+  }
+    where
+      none : drop (length (expression_list arguments)) (expression_list arguments) ≡ []
+      none = nil_from_length (drop (length (expression_list arguments)) (expression_list arguments)) (omega (arith, length-drop (length (expression_list arguments)) (expression_list arguments)))
+
+  -- the column before the first step
+  pub others_behind : (k : ℕ) (rows : List Layer) (others : List (Option ℕ)) → rows ≡ layers → k < length (expression_list arguments) → others ≡ column rows node k ++ Some 0 ∷ []
+      → (k < length (expression_list arguments) → NoneBelow zeros k → ⊥) → OthersTold (grammar checked) arguments m zeros k others
+  others_behind k rows others same within is such =
+      others_step k (Some 0) others within (is ∙ ap (λ (some : List Layer). column some node k ++ Some 0 ∷ []) same) (λ none. absurd (such within none))
+
+module _ (checked : Checked) (marks : List Bool) (layers : List Layer) (told : AreTold checked marks layers) (node : ℕ) (arguments : Expressions)
     (marked : IsMarked marks node) (at : node_at checked.rules node ≡ Some (expr.Prod arguments)) (m : ℕ) (zeros : ℕ → Bool) (filled : length layers ≡ m)
     (now : List (Option ℕ)) (known : ArgumentsTold (grammar checked) arguments (children_at checked.rules node) now m zeros) where
   -- of which place k stands before place i alone, with the later ones
@@ -213,46 +265,16 @@ module _ (checked : Checked) (marks : List Bool) (layers : List Layer) (told : A
       (subst (λ (u : Universe). Tells sum (joined u (number (grammar checked) e) (number (grammar checked) (expr.Prod (expressions_of (drop (k + 1) (expression_list arguments))))) m)) same
       (joined_told (number (grammar checked) e) (number (grammar checked) (expr.Prod (expressions_of (drop (k + 1) (expression_list arguments))))) products))
 
-  -- what stands at index k among the numbers of the Prod
-  value_at : (k d : ℕ) → k < length (expression_list arguments)
-      → unwrap_or (slice_get (values (numbers_at (grammar checked) (expr.Prod arguments) d)) k) 0 ≡ number (grammar checked) (expr.Prod (expressions_of (drop k (expression_list arguments)))) d
-  value_at zero d within = ap (λ (es : Expressions). number (grammar checked) (expr.Prod es) d) (sym (again arguments))
-  value_at (suc j) d within =
-      ap (λ (found : Option ℕ). unwrap_or found 0) (ap (slice_get (values (numbers_at (grammar checked) (expr.Prod arguments) d))) (back j) ∙ suffix_value (grammar checked) arguments d (suc (suc j)) (omega arith) (omega arith))
-      ∙ ap (λ (k : ℕ). number (grammar checked) (expr.Prod (expressions_of (drop k (expression_list arguments)))) d) (sym (back j))
-    where
-      back : (j : ℕ) → suc j ≡ suc (suc j) - 1
-      back j = omega arith
-
-  -- the column for the next step
-  others_step : (k : ℕ) (sum : Option ℕ) (others : List (Option ℕ)) → k < length (expression_list arguments) → others ≡ column layers node k ++ sum ∷ []
-      → (NoneBelow zeros k → Tells sum (number (grammar checked) (expr.Prod (expressions_of (drop k (expression_list arguments)))) m)) → OthersTold (grammar checked) arguments m zeros k others
-  others_step k sum others within same sum_told = record {
-    for_each = ap (λ (all : List (Option ℕ)). length all) same ∙ length_column layers node k sum ∙ ap (λ (n : ℕ). n + 1) filled;
-    each = λ d one low there may. here d one low (subst (λ (all : List (Option ℕ)). slice_get all d ≡ Some one) same there) may (cases_lt d m);
-  }
-    where
-      here : (d : ℕ) (one : Option ℕ) → d ≤ m → slice_get (column layers node k ++ sum ∷ []) d ≡ Some one → (d < m) ⊎ NoneBelow zeros k → (d < m) ⊎ (m ≤ d)
-          → Tells one (number (grammar checked) (expr.Prod (expressions_of (drop k (expression_list arguments)))) d)
-      here d one low there may (inl below) =
-          tells_by one _ _ (value_at k d within) (entry_told checked marks layers told node (expr.Prod arguments) marked at k sum d one (omega (arith, filled)) there)
-      here d one low there (inl below) (inr past) = absurd (omega arith)
-      here d one low there (inr before) (inr past) =
-          let end : d ≡ m = omega arith in
-          let is : one ≡ sum = last_entry layers node k sum d one (end ∙ sym filled) there in
-          subst (λ (o : Option ℕ). Tells o (number (grammar checked) (expr.Prod (expressions_of (drop k (expression_list arguments)))) d)) (sym is)
-          (tells_by sum _ _ (ap (number (grammar checked) (expr.Prod (expressions_of (drop k (expression_list arguments))))) (sym end)) (sum_told before))
-
   -- one suffix more
-  made_step : (k later : ℕ) (sum : Option ℕ) (made more : List (Option ℕ)) → later + (k + 1) ≡ length (expression_list arguments) → more ≡ made ++ sum ∷ []
-      → (NoneBelow zeros k → Tells sum (number (grammar checked) (expr.Prod (expressions_of (drop k (expression_list arguments)))) m)) → SuffixesTold (grammar checked) arguments m zeros later made
-      → SuffixesTold (grammar checked) arguments m zeros (later + 1) more
-  made_step k later sum made more place pushed sum_told all = record {
+  made_step : (k later high : ℕ) (sum : Option ℕ) (made more : List (Option ℕ)) → later + (k + 1) ≡ high → more ≡ made ++ sum ∷ []
+      → (NoneBelow zeros k → Tells sum (number (grammar checked) (expr.Prod (expressions_of (drop k (expression_list arguments)))) m)) → SuffixesTold (grammar checked) arguments m zeros high later made
+      → SuffixesTold (grammar checked) arguments m zeros high (later + 1) more
+  made_step k later high sum made more place pushed sum_told all = record {
     for_each = ap (λ (items : List (Option ℕ)). length items) pushed ∙ length_push made sum ∙ ap (λ (n : ℕ). n + 1) all.for_each;
     each = λ p s one whole there before. here p s one whole before (pushed_at made sum p one (subst (λ (items : List (Option ℕ)). slice_get items p ≡ Some one) pushed there));
   }
     where
-      here : (p s : ℕ) (one : Option ℕ) → p + s ≡ length (expression_list arguments) → NoneBelow zeros (s - 1) → (slice_get made p ≡ Some one) ⊎ ((p ≡ length made) × (one ≡ sum))
+      here : (p s : ℕ) (one : Option ℕ) → p + s ≡ high → NoneBelow zeros (s - 1) → (slice_get made p ≡ Some one) ⊎ ((p ≡ length made) × (one ≡ sum))
           → Tells one (suffix_number (grammar checked) (expression_list arguments) s m)
       here p s one whole before (inl earlier) = all.each p s one whole earlier before
       here p s one whole before (inr last) =
@@ -261,47 +283,28 @@ module _ (checked : Checked) (marks : List Bool) (layers : List Layer) (told : A
           subst (λ (o : Option ℕ). Tells o (suffix_number (grammar checked) (expression_list arguments) s m)) (sym last.1)
           (tells_by sum _ _ (ap (λ (n : ℕ). number (grammar checked) (expr.Prod (expressions_of (drop n (expression_list arguments)))) m) (sym index)) (sum_told first))
 
-  -- before the first step
-  pub others_first : (others : List (Option ℕ)) → IsNothing m others → OthersTold (grammar checked) arguments m zeros (length (expression_list arguments)) others
-  others_first others nothing = record {
-    for_each = nothing.for_each;
-    each = λ d one low there may. tells_by one _ _ (sym (ap (λ (es : List Expression). number (grammar checked) (expr.Prod (expressions_of es)) d) none ∙ recur.no_components (grammar checked) d)) (nothing.each d one there);
-  }
-    where
-      none : drop (length (expression_list arguments)) (expression_list arguments) ≡ []
-      none = nil_from_length (drop (length (expression_list arguments)) (expression_list arguments)) (omega (arith, length-drop (length (expression_list arguments)) (expression_list arguments)))
-
-  pub made_first : SuffixesTold (grammar checked) arguments m zeros 0 []
-  made_first = record { for_each = refl; each = λ p s one whole there before. let wrong : ◌≡◌ {A = Option (Option ℕ)} None (Some one) = there in absurd (cc) }
-
-  -- a step of the loop over the arguments from the last to the first
-  pub suffixes_step : (later i child : ℕ) (current sum : Option ℕ) (rows : List Layer) (firsts others next made more : List (Option ℕ)) (universe : Universe)
-      → later < length (expression_list arguments) → i ≡ length (expression_list arguments) - later → rows ≡ layers
+  -- a step of the loop over the arguments from number high down
+  pub suffixes_step : (high later i child : ℕ) (current sum : Option ℕ) (rows : List Layer) (firsts others next made more : List (Option ℕ)) (universe : Universe)
+      → high ≤ length (expression_list arguments) → later < high → i ≡ high - later → rows ≡ layers
       → slice_get (children_at checked.rules node) (i - 1) ≡ Some child → node_at checked.rules child ≡ slice_get (arguments_at checked.rules node) (i - 1) → slice_get now child ≡ Some current
       → firsts ≡ column rows child 0 ++ current ∷ [] → next ≡ column rows node (i - 1) ++ sum ∷ [] → universe ≡ checked.universe → more ≡ made ++ sum ∷ []
       → ((first other : ℕ → ℕ) → ProductsTold firsts others first other m → Tells sum (joined universe first other m))
-      → OthersTold (grammar checked) arguments m zeros (length (expression_list arguments) - later) others × SuffixesTold (grammar checked) arguments m zeros later made
-      → OthersTold (grammar checked) arguments m zeros (length (expression_list arguments) - (later + 1)) next × SuffixesTold (grammar checked) arguments m zeros (later + 1) more
-  suffixes_step later i child current sum rows firsts others next made more universe within place same child_is child_at now_at first_is next_is in_universe pushed joined_told before =
-      let index : length (expression_list arguments) - (later + 1) ≡ i - 1 = omega arith in
-      let from : length (expression_list arguments) - later ≡ i - 1 + 1 = omega arith in
+      → OthersTold (grammar checked) arguments m zeros (high - later) others × SuffixesTold (grammar checked) arguments m zeros high later made
+      → OthersTold (grammar checked) arguments m zeros (high - (later + 1)) next × SuffixesTold (grammar checked) arguments m zeros high (later + 1) more
+  suffixes_step high later i child current sum rows firsts others next made more universe most within place same child_is child_at now_at first_is next_is in_universe pushed joined_told before =
+      let index : high - (later + 1) ≡ i - 1 = omega arith in
+      let from : high - later ≡ i - 1 + 1 = omega arith in
       let sum_told : NoneBelow zeros (i - 1) → Tells sum (number (grammar checked) (expr.Prod (expressions_of (drop (i - 1) (expression_list arguments)))) m) =
       suffix_told (i - 1) child current sum firsts others universe (omega arith) child_is child_at now_at (first_is ∙ ap (λ (some : List Layer). column some child 0 ++ current ∷ []) same)
       (subst (λ (n : ℕ). OthersTold (grammar checked) arguments m zeros n others) from before.0) in_universe joined_told in (
         subst (λ (n : ℕ). OthersTold (grammar checked) arguments m zeros n next) (sym index)
-            (others_step (i - 1) sum next (omega arith) (next_is ∙ ap (λ (some : List Layer). column some node (i - 1) ++ sum ∷ []) same) sum_told),
-        made_step (i - 1) later sum made more (omega arith) pushed sum_told before.1,
+            (others_step checked marks layers told node arguments marked at m zeros filled (i - 1) sum next (omega arith) (next_is ∙ ap (λ (some : List Layer). column some node (i - 1) ++ sum ∷ []) same) sum_told),
+        made_step (i - 1) later high sum made more (omega arith) pushed sum_told before.1,
       )
 
-  pub suffixes_init : (others made : List (Option ℕ)) → IsNothing m others → made ≡ []
-      → OthersTold (grammar checked) arguments m zeros (length (expression_list arguments) - 0) others × SuffixesTold (grammar checked) arguments m zeros 0 made
-  suffixes_init others made nothing empty = (
-    subst (λ (n : ℕ). OthersTold (grammar checked) arguments m zeros n others) (all (length (expression_list arguments))) (others_first others nothing),
-    subst (λ (items : List (Option ℕ)). SuffixesTold (grammar checked) arguments m zeros 0 items) (sym empty) made_first,
-  )
-    where
-      all : (n : ℕ) → n ≡ n - 0
-      all n = omega arith
+-- before the first step nothing is made
+pub made_first : (g : Grammar) (arguments : Expressions) (m : ℕ) (zeros : ℕ → Bool) (high : ℕ) → SuffixesTold g arguments m zeros high 0 []
+made_first g arguments m zeros high = record { for_each = refl; each = λ p s one whole there before. let wrong : ◌≡◌ {A = Option (Option ℕ)} None (Some one) = there in absurd (cc) }
 
 -- a Prod has as many children as arguments
 pub arguments_count : (rules : Rules) (node : ℕ) (arguments : Expressions) → node_at rules node ≡ Some (expr.Prod arguments) → length (children_at rules node) ≡ length (expression_list arguments)
@@ -320,3 +323,68 @@ node_within checked marks layers told node marked = omega (arith, marked_within 
 pub column_count : (layers rows : List Layer) (node i m : ℕ) (last : Option ℕ) (items : List (Option ℕ)) → rows ≡ layers → length layers ≡ m → items ≡ column rows node i ++ last ∷ [] → length items ≡ m + 1
 column_count layers rows node i m last items same filled is =
     ap (λ (all : List (Option ℕ)). length all) is ∙ length_column rows node i last ∙ ap (λ (all : List Layer). length all + 1) same ∙ ap (λ (n : ℕ). n + 1) filled
+
+-- ---- the first suffixes
+
+-- what an argument needs, by its least size
+pub needs_at : (checked : Checked) (children : List ℕ) (k child least : ℕ) → slice_get children k ≡ Some child → slice_get checked.leasts child ≡ Some least → needs_atoms checked children k ≡ nat_le 1 least
+needs_at checked children k child least there is =
+    ap (λ (found : Option ℕ). nat_le 1 (unwrap_or (option_and_then (slice_get checked.leasts) found) 0)) there ∙ ap (λ (found : Option ℕ). nat_le 1 (unwrap_or found 0)) is
+
+pub needs_some : (checked : Checked) (children : List ℕ) (i child least : ℕ) → slice_get children (i + 1 - 1) ≡ Some child → slice_get checked.leasts child ≡ Some least → 0 < least → needs_atoms checked children i ≡ true
+needs_some checked children i child least there is some = needs_at checked children i child least (ap (slice_get children) (back i) ∙ there) is ∙ grind (arith, nat_tests)
+  where
+    back : (i : ℕ) → i ≡ i + 1 - 1
+    back i = omega arith
+
+pub needs_none : (checked : Checked) (children : List ℕ) (i child least : ℕ) → slice_get children (i + 1 - 1) ≡ Some child → slice_get checked.leasts child ≡ Some least → least ≤ 0 → needs_atoms checked children i ≡ false
+needs_none checked children i child least there is none = needs_at checked children i child least (ap (slice_get children) (back i) ∙ there) is ∙ grind (arith, nat_tests)
+  where
+    back : (i : ℕ) → i ≡ i + 1 - 1
+    back i = omega arith
+
+-- the first that is such, or none
+pub up_to_found : (zeros : ℕ → Bool) (i all : ℕ) → i < all → NoneBelow zeros i → zeros i ≡ true → AreUpToFirst zeros (i + 1) all
+up_to_found zeros i all less before here = record {
+  within = omega arith;
+  some = λ more. omega arith;
+  before = λ k below. before k (omega arith);
+  last = λ more none. true≢false (sym here ∙ none i (omega arith));
+}
+
+pub up_to_all : (zeros : ℕ → Bool) (count all : ℕ) → count ≡ all → NoneBelow zeros count → AreUpToFirst zeros count all
+up_to_all zeros count all same none = record {
+  within = omega arith;
+  some = λ more. omega arith;
+  before = λ k below. none k (omega arith);
+  last = λ less others. absurd (omega arith);
+}
+
+pub none_more : (zeros : ℕ → Bool) (i : ℕ) → NoneBelow zeros i → zeros i ≡ false → NoneBelow zeros (i + 1)
+none_more zeros i before here k below = elim (cases_lt k i) [
+  | inl less ↦ before k less
+  | inr past ↦ let same : k ≡ i = omega arith in ap zeros same ∙ here
+]
+
+-- where the arguments stand up to the first that is such, all of them are told
+pub firsts_told : (g : Grammar) (arguments : Expressions) (m : ℕ) (zeros : ℕ → Bool) (high all count : ℕ) (made : List (Option ℕ)) → all ≡ length (expression_list arguments) → count ≡ high
+    → AreUpToFirst zeros high all → SuffixesTold g arguments m zeros high count made → FirstsTold g arguments m made
+firsts_told g arguments m zeros high all count made is same first told = record {
+  within = omega (arith, told.for_each, first.within);
+  each = λ p s one whole there.
+      told.each p s one (omega (arith, told.for_each)) there (λ k below. first.before k (omega (arith, below, slice_get_within made p one there, told.for_each)));
+}
+
+pub firsts_none : (g : Grammar) (arguments : Expressions) (m : ℕ) → FirstsTold g arguments m []
+firsts_none g arguments m = record { within = omega arith; each = λ p s one whole there. let wrong : ◌≡◌ {A = Option (Option ℕ)} None (Some one) = there in absurd (cc) }
+
+-- the later ones, down to the first that is told, and then the first ones
+pub with_firsts : (g : Grammar) (arguments : Expressions) (m : ℕ) (zeros : ℕ → Bool) (high low count : ℕ) (late firsts all : List (Option ℕ)) → SuffixesTold g arguments m zeros high count late → FirstsTold g arguments m firsts
+    → count ≡ high - low → low ≡ length firsts → low ≤ high → all ≡ late ++ firsts → SuffixesTold g arguments m zeros high high all
+with_firsts g arguments m zeros high low count late firsts all told first same from below whole = subst (λ (items : List (Option ℕ)). SuffixesTold g arguments m zeros high high items) (sym whole) (record {
+  for_each = omega (arith, length-append late firsts, told.for_each);
+  each = λ p s one place there before. elim (get_either late firsts p one there) [
+    | inl early ↦ told.each p s one place early before
+    | inr behind ↦ first.each behind.0 s one (omega (arith, behind.1, place, told.for_each)) behind.2
+  ];
+})

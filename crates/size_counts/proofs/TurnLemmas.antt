@@ -1,7 +1,9 @@
 -- When its turn comes, what a node needs of the nodes below it is told.
-use Rattle.std.proofs.Common.{◌≡◌, ◌⊎◌, ℕ, zero, suc, ◌<◌, ◌≤◌, Bool, true, false, true≢false, List, [], ◌∷◌, length, Option, Some, slice_get, unwrap_or, refl, sym, ap, ◌∙◌, subst, inl, inr, arith, IsTrue}
+use Rattle.std.proofs.Common.{◌≡◌, ◌⊎◌, ℕ, ◌<◌, ◌≤◌, Bool, true, false, true≢false, List, [], ◌∷◌, length, Option, Some, slice_get, unwrap_or, sym, ap, ◌∙◌, subst, inl, inr, arith, IsTrue}
+use Rattle.std.specs.Prelude.{nat_le}
 use Rattle.std.specs.Option.{option_and_then}
 use Rattle.std.proofs.lemmas.Bool.{cases_lt}
+use Rattle.std.proofs.lemmas.Bool.Decides.{nat_tests}
 use Rattle.std.proofs.lemmas.Option.{slice_get_within, slice_get_past}
 use Rattle.lists.proofs.Places.{in_of_get}
 use Rattle.lists.proofs.Positions.{slice_some}
@@ -24,26 +26,17 @@ use Rattle.well_founded.specs.Rank.{FallsBySizes, CanHaveAll}
 use Rattle.splits.specs.Capped.{Tells}
 use Rattle.size_counts.specs.Tables.{Layer}
 use Rattle.size_counts.specs.Told.{AreTold, TellNow}
-use Rattle.size_counts.specs.Suffixes.{ArgumentsTold}
+use Rattle.size_counts.specs.Suffixes.{ArgumentsTold, needs_atoms}
 use Rattle.size_counts.specs.Turns.{EachTold, NameTold}
 use Rattle.size_counts.proofs.Law.{recur}
 use Rattle.size_counts.proofs.ReachedLemmas.{children_here}
+use Rattle.size_counts.proofs.SuffixLemmas.{needs_at}
 
-abbrev positive : ℕ → Bool
-positive zero = false
-positive (suc n) = true
+pub positive_is : (n : ℕ) → nat_le 1 n ≡ true → 0 < n
+positive_is n is = grind (arith, nat_tests)
 
--- has the argument at place k no structure without atoms, by its least size
-abbrev pub needs_atoms : Checked → List ℕ → ℕ → Bool
-needs_atoms checked children k = positive (unwrap_or (option_and_then (slice_get checked.leasts) (slice_get children k)) 0)
-
-is_positive : (n : ℕ) → positive n ≡ true → 0 < n
-is_positive zero is = absurd (true≢false (sym is))
-is_positive (suc n) is = omega arith
-
-is_none : (n : ℕ) → positive n ≡ false → n ≡ 0
-is_none zero is = refl
-is_none (suc n) is = absurd (true≢false is)
+pub is_none : (n : ℕ) → nat_le 1 n ≡ false → n ≡ 0
+is_none n is = grind (arith, nat_tests)
 
 module _ (checked : Checked) (marks : List Bool) (layers : List Layer) (told_tables : AreTold checked marks layers) (node m rank : ℕ) (now : List (Option ℕ)) (e : Expression)
     (marked : IsMarked marks node) (at : node_at checked.rules node ≡ Some e) (falls : FallsBySizes checked.rules checked.leasts checked.ranks node e rank)
@@ -111,8 +104,8 @@ turn_name checked marks layers told_tables node m rank now (expr.Name name) mark
 -- a Prod
 module _ (checked : Checked) (marks : List Bool) (layers : List Layer) (told_tables : AreTold checked marks layers) (node m rank : ℕ) (now : List (Option ℕ)) (es : Expressions)
     (marked : IsMarked marks node) (at : node_at checked.rules node ≡ Some (expr.Prod es)) where
-  least_here : (k child l : ℕ) → slice_get (children_at checked.rules node) k ≡ Some child → slice_get checked.leasts child ≡ Some l → needs_atoms checked (children_at checked.rules node) k ≡ positive l
-  least_here k child l child_is least = ap (λ (found : Option ℕ). positive (unwrap_or (option_and_then (slice_get checked.leasts) found) 0)) child_is ∙ ap (λ (found : Option ℕ). positive (unwrap_or found 0)) least
+  least_here : (k child l : ℕ) → slice_get (children_at checked.rules node) k ≡ Some child → slice_get checked.leasts child ≡ Some l → needs_atoms checked (children_at checked.rules node) k ≡ nat_le 1 l
+  least_here k child l child_is least = needs_at checked (children_at checked.rules node) k child l child_is least
 
   count : length (children_at checked.rules node) ≡ length (expression_list es)
   count = ap (λ (all : List ℕ). length all) (children_here checked.rules node _ at) ∙ length-children_of node (expr.Prod es)
@@ -126,7 +119,7 @@ module _ (checked : Checked) (marks : List Bool) (layers : List Layer) (told_tab
   within_list : (k : ℕ) → needs_atoms checked (children_at checked.rules node) k ≡ true → k < length (expression_list es)
   within_list k is = elim (cases_lt k (length (children_at checked.rules node))) [
     | inl less ↦ omega (arith, count)
-    | inr past ↦ absurd (true≢false (sym is ∙ ap (λ (found : Option ℕ). positive (unwrap_or (option_and_then (slice_get checked.leasts) found) 0)) (slice_get_past (children_at checked.rules node) k past)))
+    | inr past ↦ absurd (true≢false (sym is ∙ ap (λ (found : Option ℕ). nat_le 1 (unwrap_or (option_and_then (slice_get checked.leasts) found) 0)) (slice_get_past (children_at checked.rules node) k past)))
   ]
 
   zero_number : (k : ℕ) (f : Expression) → slice_get (expression_list es) k ≡ Some f → needs_atoms checked (children_at checked.rules node) k ≡ true → number (grammar checked) f 0 ≡ 0
@@ -135,7 +128,7 @@ module _ (checked : Checked) (marks : List Bool) (layers : List Layer) (told_tab
       let f_node = child_at k child.0 f f_at child.1 in
       let least = slice_some checked.leasts child.0 (omega (arith, slice_get_within (all_nodes checked.rules) child.0 f f_node, told_tables.is_checked.least.for_each)) in
       recur.below_least (grammar checked) f least.0 0 told_tables.is_checked.spec told_tables.is_checked.well_founded (in_nodes checked.rules child.0 f f_node)
-      (told_tables.is_checked.least.each child.0 least.0 f f_node least.1) (is_positive least.0 (sym (least_here k child.0 least.0 child.1 least.1) ∙ is))
+      (told_tables.is_checked.least.each child.0 least.0 f f_node least.1) (positive_is least.0 (sym (least_here k child.0 least.0 child.1 least.1) ∙ is))
 
   pub turn_prod : FallsBySizes checked.rules checked.leasts checked.ranks node (expr.Prod es) rank → TellNow checked marks m rank now → m ≤ 1000
       → ArgumentsTold (grammar checked) es (children_at checked.rules node) now m (needs_atoms checked (children_at checked.rules node))
@@ -145,7 +138,7 @@ module _ (checked : Checked) (marks : List Bool) (layers : List Layer) (told_tab
     told = λ k child f one f_at child_is now_at may.
         child_told checked marks layers told_tables node m rank now (expr.Prod es) marked at falls now_told small k child f one (place_of_child k child child_is) (child_at k child f f_at child_is) now_at (elim may [
           | inl none ↦ inl (λ other j j_is differs. none_least other j j_is (none other differs))
-          | inr here ↦ inr (λ least least_is. omega (arith, here.0, is_positive least (sym (least_here k child least child_is least_is) ∙ here.1)))
+          | inr here ↦ inr (λ least least_is. omega (arith, here.0, positive_is least (sym (least_here k child least child_is least_is) ∙ here.1)))
         ]);
   }
     where

@@ -1,8 +1,10 @@
 -- What is known of the numbers of a Prod at a size from the counts of its arguments there.
-use Rattle.std.specs.Prelude.{◌≡◌, ◌⊎◌, ℕ, ◌+◌, ◌-◌, ◌≤◌, ◌<◌, Bool, true, false, List, length, drop, Option, Some, slice_get}
+use Rattle.std.specs.Prelude.{◌≡◌, ◌⊎◌, ℕ, nat_le, ◌+◌, ◌-◌, ◌≤◌, ◌<◌, Bool, true, false, List, length, drop, Option, Some, slice_get, unwrap_or}
+use Rattle.std.specs.Option.{option_and_then}
 use Rattle.spec_syntax.specs.Expression.{Expression, Expressions, Prod, expression_list, expressions_of}
 use Rattle.spec_syntax.specs.Grammar.{Grammar}
 use Rattle.struct_model.specs.Bounded.{number}
+use Rattle.well_founded.specs.Checked.{Checked}
 use Rattle.listing_laws.specs.Numbers.{one_at}
 use Rattle.size_counts.specs.Numbers.{suffix_number}
 use Rattle.splits.specs.Capped.{Tells}
@@ -11,6 +13,10 @@ use Rattle.splits.specs.Capped.{Tells}
 pub record IsNothing (m : ℕ) (column : List (Option ℕ)) : Type 0 where
   pub for_each : length column ≡ m + 1
   pub each : (d : ℕ) (one : Option ℕ) → slice_get column d ≡ Some one → Tells one (one_at 0 d)
+
+-- has the argument at place k no structure without atoms, by its least size
+abbrev pub needs_atoms : Checked → List ℕ → ℕ → Bool
+needs_atoms checked children k = nat_le 1 (unwrap_or (option_and_then (slice_get checked.leasts) (slice_get children k)) 0)
 
 -- none of the places below n is one of those
 abbrev pub NoneBelow : (ℕ → Bool) → ℕ → Type 0
@@ -28,10 +34,10 @@ pub record ArgumentsTold (g : Grammar) (arguments : Expressions) (children : Lis
   pub told : (k child : ℕ) (e : Expression) (one : Option ℕ) → slice_get (expression_list arguments) k ≡ Some e → slice_get children k ≡ Some child → slice_get now child ≡ Some one
       → NoneBut zero k ⊎ ((m ≡ 0) × (zero k ≡ true)) → Tells one (number g e m)
 
--- the last suffixes of the arguments, so many, are told from the last on: each one before which no such argument stands
-pub record SuffixesTold (g : Grammar) (arguments : Expressions) (m : ℕ) (zero : ℕ → Bool) (count : ℕ) (made : List (Option ℕ)) : Type 0 where
+-- from suffix number high down so many are told: each one before which no such argument stands
+pub record SuffixesTold (g : Grammar) (arguments : Expressions) (m : ℕ) (zero : ℕ → Bool) (high count : ℕ) (made : List (Option ℕ)) : Type 0 where
   pub for_each : length made ≡ count
-  pub each : (p s : ℕ) (one : Option ℕ) → p + s ≡ length (expression_list arguments) → slice_get made p ≡ Some one → NoneBelow zero (s - 1)
+  pub each : (p s : ℕ) (one : Option ℕ) → p + s ≡ high → slice_get made p ≡ Some one → NoneBelow zero (s - 1)
       → Tells one (suffix_number g (expression_list arguments) s m)
 
 -- by size, the arguments from place i on are told, at size m where no such argument stands before
@@ -39,3 +45,19 @@ pub record OthersTold (g : Grammar) (arguments : Expressions) (m : ℕ) (zero : 
   pub for_each : length others ≡ m + 1
   pub each : (d : ℕ) (one : Option ℕ) → d ≤ m → slice_get others d ≡ Some one → (d < m) ⊎ NoneBelow zero i
       → Tells one (number g (Prod (expressions_of (drop i (expression_list arguments)))) d)
+
+-- these many arguments stand up to the first that is such, or are all of so many
+pub record AreUpToFirst (zero : ℕ → Bool) (count all : ℕ) : Type 0 where
+  pub within : count ≤ all
+  pub some : 0 < all → 0 < count
+  pub before : NoneBelow zero (count - 1)
+  pub last : count < all → NoneBelow zero count → ⊥
+
+-- the suffixes are told from one down to the first, which is the count
+pub record FirstsTold (g : Grammar) (arguments : Expressions) (m : ℕ) (firsts : List (Option ℕ)) : Type 0 where
+  pub within : length firsts ≤ length (expression_list arguments)
+  pub each : (p s : ℕ) (one : Option ℕ) → p + s ≡ length firsts → slice_get firsts p ≡ Some one → Tells one (suffix_number g (expression_list arguments) s m)
+
+-- there is one of them, unless there is no argument
+abbrev pub AreBegun : Expressions → List (Option ℕ) → Type 0
+AreBegun arguments firsts = 0 < length (expression_list arguments) → 0 < length firsts

@@ -3,7 +3,7 @@ use Rattle.std.specs.Prelude.{◌≡◌, ℕ, ◌-◌, List, [], length, map, Op
 use Rattle.std.specs.List.{range_with_len}
 use Rattle.spec_syntax.specs.declared.expr.Card.{Card}
 use Rattle.spec_syntax.specs.declared.expr.Kind.TheVariants as kind
-use Rattle.spec_syntax.specs.Expression.{Expression, Many}
+use Rattle.spec_syntax.specs.Expression.{Expression, Expressions, Prod, Many}
 use Rattle.spec_syntax.specs.Nodes.{node_at, below}
 use Rattle.spec_syntax.specs.Grammar.{Grammar}
 use Rattle.graphs.specs.Graph.{IsMarked}
@@ -16,6 +16,7 @@ use Rattle.well_founded.specs.SameSize.{is_told_inside}
 use Rattle.splits.specs.Capped.{Tells}
 use Rattle.size_counts.specs.declared.tables.Tables.{Tables}
 use Rattle.size_counts.specs.Numbers.{list_number, most_components, numbers_at}
+use Rattle.size_counts.specs.Suffixes.{FirstsTold}
 use Rattle.size_counts.specs.Told.{values, IsReady, TellAll, TellNow}
 
 -- the size of a word, where the node is one
@@ -47,10 +48,16 @@ LongerTold checked node m longer =
     (element : Expression) (card : Card) → node_at checked.rules node ≡ Some (Many kind.Sequence element card)
     → TellAll longer (map (λ c. list_number (grammar checked) element c m) (range_with_len 2 (most_components card m - 1)))
 
+-- what is told of the numbers of the node beside its count: of a Sequence the lists of two components or more, and of a Prod the
+-- first suffixes, as far as they are made
+pub record BesideTold (checked : Checked) (node m : ℕ) (beside : List (Option ℕ)) : Type 0 where
+  pub longer : LongerTold checked node m beside
+  pub firsts : (arguments : Expressions) → node_at checked.rules node ≡ Some (Prod arguments) → FirstsTold (grammar checked) arguments m beside
+
 -- the same of each marked node below n
-pub record AreLonger (tables : Tables) (m n : ℕ) (longer : List (List (Option ℕ))) : Type 0 where
-  pub for_each : length longer ≡ n
-  pub each : (node : ℕ) (one : List (Option ℕ)) → slice_get longer node ≡ Some one → IsMarked tables.marks.items node → LongerTold tables.grammar node m one
+pub record AreBeside (tables : Tables) (m n : ℕ) (beside : List (List (Option ℕ))) : Type 0 where
+  pub for_each : length beside ≡ n
+  pub each : (node : ℕ) (one : List (Option ℕ)) → slice_get beside node ≡ Some one → IsMarked tables.marks.items node → BesideTold tables.grammar node m one
 
 -- the node is marked and has the rank, and the counts at size m are told of all of lower rank
 pub record IsTurn (tables : Tables) (node m rank : ℕ) (now : List (Option ℕ)) : Type 0 where

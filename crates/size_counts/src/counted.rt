@@ -39,9 +39,9 @@ fn layer(alloc: Global, tables: &Tables, m: u32) -> Result<Seq<Seq<u128>>, Count
     requires { IsReady tables.now m }
     ensures { LayerSays tables.now m result }
 {
-    let longer = longer_each(alloc, tables, m)?;
-    let now = counts(alloc, tables, m, longer.as_slice())?;
-    let rows = rows(alloc, tables, m, now.as_slice(), longer.as_slice())?;
+    let mut beside = longer_each(alloc, tables, m)?;
+    let now = counts(alloc, tables, m, beside.as_mut_slice())?;
+    let rows = rows(alloc, tables, m, now.as_slice(), beside.as_slice())?;
     if let Some((node, i)) = too_large(rows.as_slice()) {
         let place = place_of(&tables.grammar, node as u32, i as u32, m);
         return Err(CountFault::TooLarge(place));

@@ -6,7 +6,7 @@ ghost use Rattle.spec_syntax.specs.declared.expr.Kind.TheVariants as kind;
 ghost use Rattle.spec_syntax.specs.Expression.{Expression, Expressions, Union as UnionOf, Prod as ProdOf, Many, expression_list};
 ghost use Rattle.spec_syntax.specs.Card.{admits};
 ghost use Rattle.spec_syntax.specs.Rules.{all_nodes, are_sequences};
-ghost use Rattle.graphs.specs.Graph.{IsMarked};
+ghost use Rattle.spec_syntax.specs.Grammar.{Grammar};
 ghost use Rattle.spec_syntax.specs.Nodes.{node_at, children_at};
 ghost use Rattle.struct_model.specs.Bounded.{number};
 ghost use Rattle.well_founded.specs.declared.node.NodeKind.TheVariants as told;
@@ -16,13 +16,11 @@ ghost use Rattle.listing_laws.specs.Numbers.{one_at};
 ghost use Rattle.splits.specs.Capped.{Tells};
 ghost use Rattle.size_counts.specs.Numbers.{most_components, list_number};
 ghost use Rattle.size_counts.specs.Told.{IsReady};
-ghost use Rattle.size_counts.specs.Suffixes.{ArgumentsTold};
-ghost use Rattle.size_counts.specs.Turns.{word_size, EachTold, NameTold, LongerTold, IsTurn};
+ghost use Rattle.size_counts.specs.Suffixes.{FirstsTold, AreBegun};
+ghost use Rattle.size_counts.specs.Turns.{word_size, EachTold, NameTold, LongerTold, BesideTold, IsTurn};
 
-use crate::suffixes::suffixes;
 use crate::tables::Tables;
 use splits::plus;
-use std::alloc::{AllocError, Global};
 use well_founded::NodeKind;
 
 /// 1 where these are equal, and 0 otherwise.
@@ -119,52 +117,37 @@ fn name_count(tables: &Tables, node: u32, m: u32, now: &[Option<u128>]) -> Optio
     }
 }
 
-/// The count of a Prod, by those of its arguments.
-fn prod_count(
-    alloc: Global,
-    tables: &Tables,
-    node: u32,
-    m: u32,
-    now: &[Option<u128>],
-) -> Result<Option<u128>, AllocError>
-    requires ready { IsReady tables.now m }
-    requires marked { IsMarked tables.now.marks.items node }
-    requires prod { option_map kind_of (node_at tables.now.grammar.rules node) ≡ Some told.Prod }
-    requires for_each { length now.now ≡ length (all_nodes tables.now.grammar.rules) }
-    ensures { IfOk result (λ made. (arguments : Expressions) (zero : ℕ → Bool) → node_at tables.now.grammar.rules node ≡ Some (ProdOf arguments) → ArgumentsTold (grammar tables.now.grammar) arguments (children_at tables.now.grammar.rules node) now.now m zero → Tells made (number (grammar tables.now.grammar) (ProdOf arguments) m)) }
+/// The count of a Prod, the last of its suffixes, or that of lists of no structures.
+fn prod_count(m: u32, firsts: &[Option<u128>]) -> Option<u128>
+    ensures { (g : Grammar) (arguments : Expressions) → FirstsTold g arguments m firsts.now → AreBegun arguments firsts.now → Tells result (number g (ProdOf arguments) m) }
 {
-    let made = suffixes(alloc, tables, node, m, now)?;
-    if made.is_empty() {
-        return Ok(one_at(0, m));
+    if firsts.is_empty() {
+        return one_at(0, m);
     }
-    Ok(*made.at(made.len() - 1))
+    firsts[firsts.len() - 1]
 }
 
-/// The count of the node, by those of lower rank.
-///
-/// # Errors
-///
-/// Memory may be wanting.
+/// The count of the node, by those of lower rank and by what is told beside it.
 pub(crate) fn count_of(
-    alloc: Global,
     tables: &Tables,
     node: u32,
     m: u32,
     rank: u32,
     now: &[Option<u128>],
-    longer: &[Option<u128>],
-) -> Result<Option<u128>, AllocError>
+    beside: &[Option<u128>],
+) -> Option<u128>
     requires turn { IsTurn tables.now node m rank now.now }
-    requires longer { LongerTold tables.now.grammar node m longer.now }
-    ensures { IfOk result (λ told. (e : Expression) → node_at tables.now.grammar.rules node ≡ Some e → Tells told (number (grammar tables.now.grammar) e m)) }
+    requires beside { BesideTold tables.now.grammar node m beside.now }
+    requires begun { (arguments : Expressions) → node_at tables.now.grammar.rules node ≡ Some (ProdOf arguments) → AreBegun arguments beside.now }
+    ensures { (e : Expression) → node_at tables.now.grammar.rules node ≡ Some e → Tells result (number (grammar tables.now.grammar) e m) }
 {
     match tables.grammar.kind(node) {
-        NodeKind::Epsilon => Ok(one_at(0, m)),
-        NodeKind::Atom => Ok(one_at(1, m)),
-        NodeKind::Rule => Ok(name_count(tables, node, m, now)),
-        NodeKind::Union => Ok(union_count(tables, node, m, now)),
-        NodeKind::Prod => prod_count(alloc, tables, node, m, now),
-        NodeKind::Sequence => Ok(sequence_count(tables, node, m, now, longer)),
-        NodeKind::Set | NodeKind::PowerSet | NodeKind::Cycle => Ok(Some(0)),
+        NodeKind::Epsilon => one_at(0, m),
+        NodeKind::Atom => one_at(1, m),
+        NodeKind::Rule => name_count(tables, node, m, now),
+        NodeKind::Union => union_count(tables, node, m, now),
+        NodeKind::Prod => prod_count(m, beside),
+        NodeKind::Sequence => sequence_count(tables, node, m, now, beside),
+        NodeKind::Set | NodeKind::PowerSet | NodeKind::Cycle => Some(0),
     }
 }

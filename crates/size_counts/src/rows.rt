@@ -10,7 +10,7 @@ ghost use Rattle.well_founded.specs.NodeKinds.{kind_of};
 ghost use Rattle.well_founded.specs.Checked.{grammar};
 ghost use Rattle.size_counts.specs.Numbers.{others_at, numbers_at};
 ghost use Rattle.size_counts.specs.Told.{values, IsReady, TellAll, TellNow};
-ghost use Rattle.size_counts.specs.Turns.{LongerTold, AreLonger, AreRows};
+ghost use Rattle.size_counts.specs.Turns.{LongerTold, BesideTold, AreBeside, AreRows};
 
 use crate::components::most_components;
 use crate::suffixes::suffixes;
@@ -19,21 +19,25 @@ use seq::Seq;
 use std::alloc::{AllocError, Global};
 use well_founded::NodeKind;
 
-/// The suffixes of the Prod from the second on.
+/// The suffixes of the Prod from the second on, by the first ones, which are told.
 fn later_suffixes(
     alloc: Global,
     tables: &Tables,
     node: u32,
     m: u32,
     now: &[Option<u128>],
+    firsts: &[Option<u128>],
 ) -> Result<Seq<Option<u128>>, AllocError>
     requires ready { IsReady tables.now m }
     requires marked { IsMarked tables.now.marks.items node }
     requires prod { option_map kind_of (node_at tables.now.grammar.rules node) ≡ Some told.Prod }
     requires now { TellNow tables.now.grammar tables.now.marks.items m (length (all_nodes tables.now.grammar.rules)) now.now }
+    requires firsts { BesideTold tables.now.grammar node m firsts.now }
     ensures { IfOk result (λ made. (e : Expression) → node_at tables.now.grammar.rules node ≡ Some e → TellAll made (values (others_at (grammar tables.now.grammar) e m))) }
 {
-    let reversed = suffixes(alloc, tables, node, m, now)?;
+    let arguments = tables.grammar.children(node);
+    let mut reversed = suffixes(alloc, tables, node, m, now, firsts.len() as u32, arguments)?;
+    reversed.extend_from_slice(firsts)?;
     let mut made = Seq::new(alloc);
     for earlier in 0..reversed.len().saturating_sub(1) {
         made.push(*reversed.at(reversed.len() - 2 - earlier))?;
@@ -72,17 +76,17 @@ fn others(
     node: u32,
     m: u32,
     now: &[Option<u128>],
-    longer: &[Option<u128>],
+    beside: &[Option<u128>],
 ) -> Result<Seq<Option<u128>>, AllocError>
     requires ready { IsReady tables.now m }
     requires marked { IsMarked tables.now.marks.items node }
     requires now { TellNow tables.now.grammar tables.now.marks.items m (length (all_nodes tables.now.grammar.rules)) now.now }
-    requires longer { LongerTold tables.now.grammar node m longer.now }
+    requires beside { BesideTold tables.now.grammar node m beside.now }
     ensures { IfOk result (λ made. (e : Expression) → node_at tables.now.grammar.rules node ≡ Some e → TellAll made (values (others_at (grammar tables.now.grammar) e m))) }
 {
     match tables.grammar.kind(node) {
-        NodeKind::Prod => later_suffixes(alloc, tables, node, m, now),
-        NodeKind::Sequence => all_lists(alloc, tables, node, m, now, longer),
+        NodeKind::Prod => later_suffixes(alloc, tables, node, m, now, beside),
+        NodeKind::Sequence => all_lists(alloc, tables, node, m, now, beside),
         NodeKind::Epsilon
         | NodeKind::Atom
         | NodeKind::Rule
@@ -100,19 +104,19 @@ fn row(
     node: u32,
     m: u32,
     now: &[Option<u128>],
-    longer: &[Option<u128>],
+    beside: &[Option<u128>],
 ) -> Result<Seq<Option<u128>>, AllocError>
     requires ready { IsReady tables.now m }
     requires within { node < length (all_nodes tables.now.grammar.rules) }
     requires now { TellNow tables.now.grammar tables.now.marks.items m (length (all_nodes tables.now.grammar.rules)) now.now }
-    requires longer { IsMarked tables.now.marks.items node → LongerTold tables.now.grammar node m longer.now }
+    requires beside { IsMarked tables.now.marks.items node → BesideTold tables.now.grammar node m beside.now }
     ensures told { IfOk result (λ made. (e : Expression) → IsMarked tables.now.marks.items node → node_at tables.now.grammar.rules node ≡ Some e → TellAll made (values (numbers_at (grammar tables.now.grammar) e m))) }
     ensures empty { IfOk result (λ made. (IsMarked tables.now.marks.items node → ⊥) → made ≡ []) }
 {
     let mut made = Seq::new(alloc);
     if tables.marks[node as usize] {
         made.push(now[node as usize])?;
-        let others = others(alloc, tables, node, m, now, longer)?;
+        let others = others(alloc, tables, node, m, now, beside)?;
         made.extend_from_slice(others.as_slice())?;
     }
     Ok(made)
@@ -128,17 +132,17 @@ pub(crate) fn rows(
     tables: &Tables,
     m: u32,
     now: &[Option<u128>],
-    longer: &[Seq<Option<u128>>],
+    beside: &[Seq<Option<u128>>],
 ) -> Result<Vec<Seq<Option<u128>>>, AllocError>
     requires ready { IsReady tables.now m }
     requires now { TellNow tables.now.grammar tables.now.marks.items m (length (all_nodes tables.now.grammar.rules)) now.now }
-    requires longer { AreLonger tables.now m (length (all_nodes tables.now.grammar.rules)) longer.now }
+    requires beside { AreBeside tables.now m (length (all_nodes tables.now.grammar.rules)) beside.now }
     ensures { IfOk result (λ made. AreRows tables.now m (length (all_nodes tables.now.grammar.rules)) made.items) }
 {
     let mut made = Vec::new(alloc);
     for node in 0..tables.grammar.nodes() {
-        let longer = longer[node as usize].as_slice();
-        made.push(row(alloc, tables, node, m, now, longer)?)?;
+        let told = beside[node as usize].as_slice();
+        made.push(row(alloc, tables, node, m, now, told)?)?;
     }
     Ok(made)
 }

@@ -1,13 +1,11 @@
-use Rattle.std.proofs.Common.{◌≡◌, ap, subst, sym, ◌∙◌, refl, Result, Ok, Err, Some, inl, inr}
-use Rattle.std.specs.Result.{IfOk}
+use Rattle.std.proofs.Common.{◌≡◌, ap, subst, sym, ◌∙◌, refl, Some, inl, inr}
 use Rattle.spec_syntax.specs.Expression.{Expression}
-use Rattle.spec_syntax.specs.Nodes.{children_at}
 use Rattle.struct_model.specs.Bounded.{number}
 use Rattle.well_founded.specs.declared.node.NodeKind.TheVariants as told
 use Rattle.well_founded.specs.Checked.{grammar}
 use Rattle.splits.specs.Capped.{Tells}
 use Rattle.size_counts.proofs.CountLemmas.{kind_here, word_count, union_there, prod_there, sequence_there, no_other, is_other}
-use Rattle.size_counts.proofs.TurnLemmas.{turn_union, turn_sequence, turn_name, turn_prod, needs_atoms}
+use Rattle.size_counts.proofs.TurnLemmas.{turn_union, turn_sequence, turn_name}
 use Rattle.size_counts.proofs.counts.count_of.Goals as goal
 
 pub returns-in-Epsilon : goal.returns-in-Epsilon
@@ -31,21 +29,12 @@ returns-in-Union c = λ e at.
     (turn_union c.args.tables.now.grammar c.args.tables.now.marks.items c.args.tables.now.layers.items c.requires.turn.ready.told c.args.node c.args.m c.args.rank c.args.now.now is.0 c.requires.turn.marked here
     (c.requires.turn.falls _ here) c.requires.turn.now_told c.requires.turn.ready.small))
 
-if_ok : {T E : Type 0} (result : Result T E) (P Q : T → Type 0) → ((x : T) → P x → Q x) → IfOk result P → IfOk result Q
-if_ok (Ok x) P Q more is = more x is
-if_ok (Err e) P Q more is = tt
-
 pub returns-in-Prod : goal.returns-in-Prod
-returns-in-Prod c =
-    if_ok c.prod_count.result _ _
-    (λ made given. λ e at.
+returns-in-Prod c = λ e at.
     let is = prod_there e (kind_here c.args.tables.now.grammar.rules c.args.node e told.Prod at c.in-Prod.ensures) in
     let here = at ∙ ap Some is.1 in
-    subst (λ (x : Expression). Tells made (number (grammar c.args.tables.now.grammar) x c.args.m)) (sym is.1)
-    (given is.0 (needs_atoms c.args.tables.now.grammar (children_at c.args.tables.now.grammar.rules c.args.node)) here
-    (turn_prod c.args.tables.now.grammar c.args.tables.now.marks.items c.args.tables.now.layers.items c.requires.turn.ready.told c.args.node c.args.m c.args.rank c.args.now.now is.0 c.requires.turn.marked here
-    (c.requires.turn.falls _ here) c.requires.turn.now_told c.requires.turn.ready.small)))
-    c.prod_count.ensures
+    subst (λ (x : Expression). Tells c.prod_count.result (number (grammar c.args.tables.now.grammar) x c.args.m)) (sym is.1)
+    (c.prod_count.ensures (grammar c.args.tables.now.grammar) is.0 (c.requires.beside.firsts is.0 here) (c.requires.begun is.0 here))
 
 pub returns-in-Sequence : goal.returns-in-Sequence
 returns-in-Sequence c = λ e at.

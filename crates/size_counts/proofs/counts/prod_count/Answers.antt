@@ -1,12 +1,15 @@
-use Rattle.std.proofs.Common.{arith, true≢false, sym, ◌∙◌}
+use Rattle.std.proofs.Common.{◌≡◌, ◌-◌, ◌<◌, arith, length}
+use Rattle.std.proofs.lemmas.Grind.{common_steps}
+use Rattle.std.proofs.lemmas.Bool.Decides.{nat_tests}
+use Rattle.std.proofs.lemmas.Option.{slice_get-get_or}
 use Rattle.size_counts.proofs.CountLemmas.{prod_empty, prod_last}
 use Rattle.size_counts.proofs.counts.prod_count.Goals as goal
 
 pub returns-then-is_empty : goal.returns-then-is_empty
-returns-then-is_empty c = λ arguments zeros at known.
-    prod_empty c.args.tables.now.grammar c.requires.ready.told.is_checked c.args.node c.args.m c.args.now.now arguments zeros c.in_ok-made.made _ (c.in_ok-made.ensures arguments zeros at known) (c.is_empty.ensures.0 c.if-is_empty.true) c.one_at.ensures
+returns-then-is_empty c = λ g arguments told begun.
+    let none : length c.args.firsts.now ≡ 0 = grind (arith, nat_tests, common_steps) in prod_empty g arguments c.args.m c.args.firsts.now c.one_at.result begun none c.one_at.ensures
 
 pub returns : goal.returns
-returns c = λ arguments zeros at known.
-    prod_last c.args.tables.now.grammar c.requires.ready.told.is_checked c.args.node c.args.m c.args.now.now arguments zeros c.in_ok-made.made _ _ (c.in_ok-made.ensures arguments zeros at known)
-    (λ empty. true≢false (sym (c.is_empty.ensures.1 empty) ∙ c.if-is_empty.false)) (omega (arith, c.len.ensures)) c.at.ensures
+returns c = λ g arguments told begun.
+    let some : 0 < length c.args.firsts.now = grind (arith, nat_tests, common_steps) in
+    prod_last g arguments c.args.m c.args.firsts.now _ (length c.args.firsts.now - 1) told some (omega arith) (slice_get-get_or c.args.firsts.now (length c.args.firsts.now - 1) _ (omega arith))
