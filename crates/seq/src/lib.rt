@@ -4,7 +4,7 @@
 //! contract: capacity and allocator take no part in it.
 #![tactic(auto)]
 
-ghost use Rattle.std.specs.Prelude.{◌≡◌, [], ◌∷◌, ◌++◌, ◌<◌, ◌≤◌, Some, length, slice_get, insert, IfOk, OnOk, OnErr, IsTrue, ◌↔◌};
+ghost use Rattle.std.specs.Prelude.{◌≡◌, [], ◌∷◌, ◌++◌, ◌<◌, ◌≤◌, Some, length, slice_get, insert, take, IfOk, IfSome, IfNone, OnOk, OnErr, IsTrue, ◌↔◌};
 ghost use Rattle.std.specs.Cmp.{on_per, on_equiv};
 ghost use Rattle.std.specs.Cmp.Lexicographic.{pointwise, lists_per, lists_equiv};
 ghost use Rattle.std.specs.Hash as fed;
@@ -100,6 +100,17 @@ impl<T: Drop> Seq<T> {
     }
 }
 
+impl<T> Seq<T> {
+    /// Takes the last item, or answers None where there is none.
+    pub fn pop(&mut self) -> Option<T>
+        ensures some { IfSome result (λ item. self.old ≡ self.new ++ item ∷ []) }
+        ensures none { IfNone result (self.old ≡ []) }
+        ensures empty { IfNone result (self.new ≡ []) }
+    {
+        self.items.pop()
+    }
+}
+
 impl<T: Copy> Seq<T> {
     /// The list of these items.
     ///
@@ -166,6 +177,8 @@ mod tests {
         assert_eq!(rt; bytes.len(), 3);
         bytes.extend_from_slice(b"de")?;
         assert_eq!(rt; *bytes.at(2), b'c');
+        assert_eq!(rt; bytes.pop(), Some(b'e'));
+        bytes.push(b'e')?;
         assert!(rt; bytes == Seq::from_slice(rt.alloc(), b"abcde")?);
         assert!(rt; bytes != Seq::from_slice(rt.alloc(), b"ab")?);
         Ok(())
