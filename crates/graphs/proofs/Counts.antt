@@ -1,7 +1,6 @@
 -- To how many nodes a node leads: to fewer than one that leads to it, where no node leads to itself.
 use Rattle.std.proofs.Common.{◌≡◌, ◌⊎◌, ℕ, zero, suc, ◌+◌, ◌<◌, ◌≤◌, Bool, true, false, List, [], ◌∷◌, ◌++◌, length, slice_get, Option, Some, None, refl, add-one, sym, ap, ◌∙◌, subst, inl, inr, arith}
 use Rattle.std.proofs.lemmas.List.{length_push, nil_from_length}
-use Rattle.std.proofs.lemmas.Option.{slice_get_within}
 use Rattle.lists.proofs.Places.{pushed_at}
 use Rattle.graphs.specs.Graph.{Graph, Leads, IsGraph, IsMarked, IsUnmarked, Reaches, count_true, IsCount, AreCounts}
 use Rattle.graphs.proofs.Reached.{leads_trans, count_first, count_below, marked_or_not, marks_exist}
@@ -48,15 +47,6 @@ count_within graph i marks reaches within no_way = by (marked_or_not marks i (om
     by : IsMarked marks i ⊎ IsUnmarked marks i → count_true marks < length graph
     by (inl marked) = absurd (no_way (reaches.sound i marked))
     by (inr unmarked) = omega (arith, count_below marks i unmarked, reaches.for_each)
-
--- two lists of marks for one node have as many marks
-pub same_count : (graph : Graph) (i : ℕ) (marks other : List Bool) → Reaches graph i marks → Reaches graph i other → count_true marks ≡ count_true other
-same_count graph i marks other reaches also =
-    omega (
-      arith,
-      count_le marks other (reaches.for_each ∙ sym also.for_each) (λ k marked. also.complete k (reaches.sound k marked)),
-      count_le other marks (also.for_each ∙ sym reaches.for_each) (λ k marked. reaches.complete k (also.sound k marked)),
-    )
 
 -- the counts of the nodes so far
 pub record CountsSo (graph : Graph) (n : ℕ) (counts : List ℕ) : Type 0 where

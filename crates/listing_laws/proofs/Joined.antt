@@ -34,9 +34,6 @@ at_other size n other = if_false (nat_eq n size) 1 0 (ne_eqb n size other)
 no_more : (n : ℕ) → n * 0 ≡ 0
 no_more n = omega arith
 
-no_first : (n : ℕ) → 0 * n ≡ 0
-no_first n = omega arith
-
 within : (d n : ℕ) → IsIn d (range_with_len 0 (n + 1)) → d ≤ n
 within d n there = omega (arith, (in_range d 0 (n + 1) there).1)
 

@@ -1,5 +1,4 @@
 mod ListerCases
-pub mod BySize
 pub mod OrderFacts
 pub mod OrderKept
 pub mod Changed
@@ -10,20 +9,18 @@ pub mod Components
 pub mod Repeated
 pub mod Containers
 pub mod RuleLaws
-pub mod Hub
+pub mod Words
 pub mod BuildingUp
 pub mod FilterLaws
 pub mod Equations
 pub mod Alike
 pub mod Sizes
-pub mod CallerLemmas
 pub mod Ranked
 pub mod WellFoundedListed
-pub mod Between
+pub mod Listed
 pub mod Recursion
 pub mod Relabel
 pub mod EndlessMembers
-pub mod ProdLeast
 pub mod Joined
 pub mod Numbers
 pub mod KindLemmas

@@ -1,39 +1,32 @@
--- The ranks of the nodes of a checked grammar, and how they and the least sizes fall on the way down.
-use Rattle.std.proofs.Common.{◌≡◌, ℕ, zero, suc, ◌+◌, ◌<◌, ◌≤◌, Bool, true, false, nat_le, List, [], ◌∷◌, map, length, if◌then◌else◌, slice_get, unwrap_or, Option, Some, None, refl, sym, ap, ◌∙◌, subst, inl, inr, arith}
+-- The ranks of the nodes of a checked grammar, and how they fall on the way down.
+use Rattle.std.proofs.Common.{◌≡◌, ℕ, zero, suc, ◌+◌, ◌<◌, ◌≤◌, Bool, true, false, nat_le, [], ◌∷◌, length, if◌then◌else◌, slice_get, unwrap_or, Option, Some, None, refl, sym, ap, ◌∙◌, arith}
 use Rattle.std.specs.Option.{option_map_or, option_and_then}
-use Rattle.std.specs.List.{sum}
 use Rattle.std.proofs.lemmas.Bool.{and_from}
 use Rattle.std.proofs.lemmas.Bool.Decides.{nat_tests}
-use Rattle.std.proofs.lemmas.List.{drop_all}
 use Rattle.std.proofs.lemmas.Option.{slice_get_within}
-use Rattle.lists.proofs.Enumerated.{from_flat_map}
 use Rattle.lists.proofs.Positions.{slice_some}
-use Rattle.lists.proofs.Shares.{others_are_0}
-use Rattle.lists.proofs.Sums.{sum_drop, sum_fewer}
 use Rattle.spec_syntax.specs.declared.expr.Card.{Card}
 use Rattle.spec_syntax.specs.declared.expr.Kind.TheVariants as kind
 use Rattle.spec_syntax.specs.Card.{admits, is_within}
 use Rattle.spec_syntax.specs.Expression as expr
-use Rattle.spec_syntax.specs.Expression.{Expression, Expressions, expression_list, expressions_of, preorder}
+use Rattle.spec_syntax.specs.Expression.{Expression, expression_list}
 use Rattle.spec_syntax.specs.Rules.{symbol, right_side, all_nodes}
 use Rattle.spec_syntax.specs.Nodes.{node_at, right_node, children_of, below, children_at, name_at, card_at}
-use Rattle.spec_syntax.proofs.NodesLemmas.{in_nodes, child_node, length-children_of, right_node_is}
+use Rattle.spec_syntax.proofs.NodesLemmas.{child_node, length-children_of, right_node_is}
 use Rattle.spec_syntax.proofs.RulesLemmas.{symbol-within, some_right}
 use Rattle.well_founded.specs.declared.node.NodeKind.{NodeKind}
 use Rattle.well_founded.specs.declared.node.NodeKind.TheVariants as told
 use Rattle.well_founded.specs.NodeKinds.{kind_of}
-use Rattle.well_founded.specs.Sizes.{IsLeast, no_least}
+use Rattle.well_founded.specs.Sizes.{no_least}
 use Rattle.well_founded.specs.Rank.{IsRank, CanHaveAll}
 use Rattle.well_founded.specs.SameSize.{is_told_inside}
 use Rattle.well_founded.specs.Checked.{Checked, IsChecked, grammar}
 use Rattle.well_founded.proofs.RankFalls.{falls_by_sizes}
-use Rattle.listing_laws.specs.Recursion.{AreLeast}
-use Rattle.listing_laws.specs.NodeListing.{HasKind, IsElement, least_at, rank_at, rule_rank, least_from}
-use Rattle.listing_laws.proofs.NodeLemmas.{AreNodes, children_are, children_at_is, back_again, kind_at, NamedRule, named_rule, UnionNode, union_node, ProdNode, prod_node, SequenceNode, sequence_node, element_node, bound_is, Component, component, prod_children, least_entry, least_is}
-use Rattle.listing_laws.proofs.ProdLeast.{least_adds}
+use Rattle.listing_laws.specs.NodeListing.{HasKind, least_at, rank_at, rule_rank}
+use Rattle.listing_laws.proofs.NodeLemmas.{children_at_is, kind_at, NamedRule, named_rule, UnionNode, union_node, SequenceNode, sequence_node, bound_is, least_entry}
 
 module _ (checked : Checked) (passed : IsChecked checked) where
-  -- ---- ranks and least sizes
+  -- ---- ranks
 
   pub rank_is : (node : ℕ) (e : Expression) → node_at checked.rules node ≡ Some e → slice_get checked.ranks node ≡ Some (rank_at checked node)
   rank_is node e at =
@@ -123,53 +116,6 @@ module _ (checked : Checked) (passed : IsChecked checked) where
       let there : node_at checked.rules child ≡ Some argument.0 = child_node checked.rules node whole place child union.at own ∙ argument.1 in
       falls node place child whole argument.0 union.at own there low tt
 
-  -- ---- Prods
-
-  pub are_least : (ms : List ℕ) (es : List Expression) → AreNodes checked.rules ms es → AreLeast (grammar checked) es (map (least_at checked) ms)
-  are_least [] [] nodes = tt
-  are_least [] (e ∷ es) nodes = absurd nodes
-  are_least (m ∷ ms) [] nodes = absurd nodes
-  are_least (m ∷ ms) (e ∷ es) nodes = (least_is checked passed m e nodes.0, are_least ms es nodes.1)
-
-  -- after the last component no atom is needed
-  pub least_end : (node place : ℕ) → length (children_at checked.rules node) ≤ place → least_from checked node place ≡ 0
-  least_end node place past = ap (λ ms. sum (map (least_at checked) ms)) (drop_all place (children_at checked.rules node) past)
-
-  pub least_next : (node place child : ℕ) → slice_get (children_at checked.rules node) place ≡ Some child
-      → least_from checked node place ≡ least_at checked child + least_from checked node (place + 1)
-  least_next node place child at = sum_drop (least_at checked) (children_at checked.rules node) place child at
-
-  pub least_whole : (node : ℕ) → HasKind checked node told.Prod → least_at checked node < no_least → least_from checked node 0 ≡ least_at checked node
-  least_whole node h low =
-      let prod : ProdNode checked node = prod_node checked node h in
-      let whole : Expression = expr.Prod prod.components in
-      ap (λ ms. sum (map (least_at checked) ms)) (prod_children checked node prod)
-      ∙ least_adds (grammar checked) (expression_list prod.components) (least_at checked node) (map (least_at checked) (children_of node whole))
-      (subst (λ (es : Expressions). IsLeast (grammar checked) (expr.Prod es) (least_at checked node)) (sym (back_again prod.components)) (least_is checked passed node whole prod.at))
-      (are_least (children_of node whole) (expression_list prod.components) (children_are checked.rules node whole prod.at)) low
-
-  pub least_within : (node place : ℕ) → HasKind checked node told.Prod → least_at checked node < no_least → least_from checked node place ≤ least_at checked node
-  least_within node place h low = omega (arith, sum_fewer (least_at checked) (children_at checked.rules node) place, least_whole node h low)
-
-  pub component_least : (node place child : ℕ) → HasKind checked node told.Prod → least_at checked node < no_least → slice_get (children_at checked.rules node) place ≡ Some child
-      → least_at checked child ≤ least_at checked node
-  component_least node place child h low at = omega (arith, least_within node place h low, least_next node place child at)
-
-  -- where a component's least size is that of the Prod, all others can be empty and the rank falls
-  pub prod_falls : (node place child : ℕ) → HasKind checked node told.Prod → least_at checked node < no_least → slice_get (children_at checked.rules node) place ≡ Some child
-      → least_at checked child ≡ least_at checked node → rank_at checked child < rank_at checked node
-  prod_falls node place child h low here same =
-      let prod : ProdNode checked node = prod_node checked node h in
-      let whole : Expression = expr.Prod prod.components in
-      let children : List ℕ = children_of node whole in
-      let c : Component checked node prod place child = component checked node prod place child here in
-      let is : children_at checked.rules node ≡ children = prod_children checked node prod in
-      let adds : sum (map (least_at checked) children) ≡ least_at checked child = ap (λ ms. sum (map (least_at checked) ms)) (sym is) ∙ least_whole node h low ∙ sym same in
-      let own : slice_get children place ≡ Some child = ap (λ ms. slice_get ms place) (sym is) ∙ here in
-      falls node place child whole c.e prod.at own c.at (omega (arith, low, same)) (λ other k there differ.
-      let also : Component checked node prod other k = component checked node prod other k (ap (λ ms. slice_get ms other) is ∙ there) in
-      least_entry checked passed k also.e also.at ∙ ap (λ (n : ℕ). Some n) (others_are_0 (least_at checked) children place child other k own there differ adds))
-
   -- ---- Sequences
 
   pub some_within : (high : Option ℕ) → (high ≡ Some 0 → ⊥) → is_within high 1 ≡ true
@@ -189,29 +135,3 @@ module _ (checked : Checked) (passed : IsChecked checked) where
       let whole : Expression = expr.Many kind.Sequence s.e s.card in
       let admitted : admits s.card 1 ≡ true = ap (λ own. admits own 1) (bound_is checked node element s card is) ∙ one_admitted card low some in
       falls node 0 element whole s.e s.at (ap (λ ms. slice_get ms 0) (sym (children_at_is checked.rules node whole s.at)) ∙ child) s.inside few admitted
-
-  -- no structure of an element has size 0
-  pub element_least : (element : ℕ) → IsElement checked element → 1 ≤ least_at checked element
-  element_least element is =
-      let s : SequenceNode checked is.node element = element_node checked element is in
-      by s (least_at checked element) (least_is checked passed element s.e s.inside)
-    where
-      by : (s : SequenceNode checked is.node element) (least : ℕ) → IsLeast (grammar checked) s.e least → 1 ≤ least
-      by s (suc n) is_least = omega arith
-      by s zero (inr high) = absurd (omega (arith, high.0))
-      by s zero (inl least) =
-          let rule = from_flat_map (λ (r : List ℕ × Expression). preorder r.1) checked.rules (expr.Many kind.Sequence s.e s.card)
-          (in_nodes checked.rules is.node (expr.Many kind.Sequence s.e s.card) s.at) in
-          absurd (passed.well_founded.no_null_elements rule.0.0 rule.0.1 rule.1 (record {
-            kind = kind.Sequence;
-            element = s.e;
-            card = s.card;
-            held = rule.2;
-            empty = least.1.smallest;
-            is_of = least.1.is_of;
-            is_empty = least.1.has_size;
-          }))
-
-  pub element_within : (element : ℕ) → IsElement checked element → element < length (all_nodes checked.rules)
-  element_within element is =
-      let s : SequenceNode checked is.node element = element_node checked element is in slice_get_within (all_nodes checked.rules) element s.e s.inside

@@ -37,7 +37,7 @@ use Rattle.listing_laws.specs.Recursion.{components_on, repeated_on}
 use Rattle.listing_laws.specs.Relabelled.{relabelled}
 use Rattle.listing_laws.specs.Laws.{IsListing, IsNeverEmpty}
 use Rattle.listing_laws.specs.Numbers.{joined, exactly, one_at, admitted, NumbersRecur}
-use Rattle.listing_laws.proofs.Between.{listing_sound, listed_size, none_below}
+use Rattle.listing_laws.proofs.Listed.{listing_sound, listed_size, none_below}
 use Rattle.listing_laws.proofs.BuildingUp.{list_within, in_part_lists}
 use Rattle.listing_laws.proofs.Equations.{prod_is_listed}
 use Rattle.listing_laws.proofs.Joined.{at_other, supply_shared, joined_same, joined_none, joined_sum, joined_where, joined_empty}

@@ -1,52 +1,44 @@
 -- The listing of an expression by the listings of those inside it.
-use Rattle.std.proofs.Common.{◌≡◌, ℕ, zero, suc, ◌+◌, ◌*◌, ◌<◌, ◌≤◌, true, List, [], ◌∷◌, ◌++◌, map, flat_map, replicate, length, length-append, refl, sym, ap, ◌∙◌, subst, inl, inr, arith, true≢false, Some, None}
+use Rattle.std.proofs.Common.{◌≡◌, ℕ, zero, suc, ◌+◌, ◌<◌, ◌≤◌, true, List, [], ◌∷◌, ◌++◌, map, length, refl, sym, ap, ◌∙◌, subst, arith, true≢false, Some, None}
 use Rattle.std.specs.Prelude.{if◌then◌else◌}
 use Rattle.std.proofs.lemmas.Bool.{and_parts, eqb-true}
 use Rattle.std.proofs.lemmas.List.{append_assoc}
-use Rattle.std.proofs.lemmas.Nat.{mul-le}
 use Rattle.spec_syntax.specs.declared.expr.Card.{Card}
 use Rattle.spec_syntax.specs.declared.expr.Kind.TheVariants as kind
-use Rattle.spec_syntax.specs.Card.{admits}
 use Rattle.spec_syntax.specs.Expression as expr
 use Rattle.spec_syntax.specs.Expression.{Expression, Expressions, no_expressions, more_expressions, expression_list, expressions_of}
 use Rattle.spec_syntax.specs.Rules.{symbol, right_side, all_nodes}
 use Rattle.spec_syntax.specs.Grammar.{Grammar}
 use Rattle.struct_model.specs.declared.tree.Form5.{Form5}
 use Rattle.struct_model.specs.declared.tree.Form5.TheVariants as form
-use Rattle.struct_model.specs.Structure.{Structure, Eps, Atom, Tup, Structures, no_parts, more_parts, part_list, parts_of, labels, labels_of_parts}
-use Rattle.struct_model.specs.Membership.{is_of, are_of, supply, is_supply}
+use Rattle.struct_model.specs.Structure.{Structure, Eps, Atom, Tup, more_parts, parts_of, labels}
+use Rattle.struct_model.specs.Membership.{supply, is_supply}
 use Rattle.lists.specs.Enumeration.{IsIn}
 use Rattle.struct_model.specs.Listing.{IsOne}
 use Rattle.struct_model.specs.Bounded.{bounds, bounded, listing}
 use Rattle.spec_syntax.specs.Nodes.{right_node, arguments_of}
 use Rattle.spec_syntax.proofs.NodesLemmas.{in_nodes, right_node_is}
 use Rattle.well_founded.specs.Rank.{AreRanks}
-use Rattle.well_founded.specs.Sizes.{IsLeast}
 use Rattle.well_founded.specs.WellFounded.{HoldsNull, OfNone}
 use Rattle.spec_syntax.proofs.ExpressionLemmas.{list_of}
-use Rattle.well_founded.proofs.ManyLaws.{low_admitted}
 use Rattle.well_founded.proofs.RankLaws.{ranks_exist}
 use Rattle.splits.specs.Splits.{Split, splits}
 use Rattle.splits.specs.Parts.{has_length, parts}
 use Rattle.listing_laws.specs.Lister.{list_epsilon, list_atom, alternatives, each_before, by_parts, after_one, admits_some, list_repeated, product, sequence, named}
-use Rattle.listing_laws.specs.BySize.{by_sizes}
-use Rattle.listing_laws.specs.Recursion.{components_on, repeated_on, components_of, listing_of_size}
+use Rattle.listing_laws.specs.Recursion.{components_on, repeated_on}
 use Rattle.listing_laws.specs.Relabelled.{relabelled, relabelled_parts}
 use Rattle.listing_laws.specs.Laws.{IsListing, ListsEach, WellFoundedIsListed, ListingsRecur}
 use Rattle.listing_laws.proofs.Alike.{supplies_are_alike}
 use Rattle.listing_laws.proofs.Arguments.{union_is}
+use Rattle.lists.proofs.FlatMaps.{same_made}
 use Rattle.lists.proofs.Mapped.{same_mapped}
-use Rattle.lists.proofs.Places.{is_empty}
-use Rattle.listing_laws.proofs.Between.{not_smaller, between}
-use Rattle.listing_laws.proofs.BySize.{by_splits-by_sizes}
 use Rattle.listing_laws.proofs.BuildingUp.{eps_within, atom_within}
 use Rattle.listing_laws.proofs.Components.{same_components, ListsComponents, no_components_are, by_splits_are, products_are}
 use Rattle.lists.proofs.Enumerated.{from_filter}
-use Rattle.listing_laws.proofs.Hub.{epsilon_lists, atom_lists}
+use Rattle.listing_laws.proofs.Words.{epsilon_lists, atom_lists}
 use Rattle.listing_laws.proofs.Ranked.{child_at, element_full}
 use Rattle.listing_laws.proofs.Repeated.{some_in, ListsRepeated, sequences_are, repeated_are}
 use Rattle.listing_laws.proofs.RuleLaws.{rule_lists, no_rule_lists}
-use Rattle.lists.proofs.Ascending.{length-ascending}
 use Rattle.struct_model.proofs.SupplyLaws.{supply_is, supply_rises}
 use Rattle.splits.proofs.SplitSupplies.{split_length, split_supplies}
 use Rattle.listing_laws.proofs.WellFoundedListed.{listing_from, label_bound, node_lists, name_lists, suffix_lists, bound_lists}
@@ -91,16 +83,7 @@ module _ (g : Grammar) where
       (λ split s. h.0.lists split.part (split_supplies g.universe u supplied split s).0)
       (λ split s. components_lists es split.rest (split_supplies g.universe u supplied split s).1 h.1)
 
-pub by_size : (g : Grammar) (es : Expressions) (n : ℕ) → components_on g es (replicate n 0) ≡ components_of g es n
-by_size g no_expressions n = refl
-by_size g (more_expressions e es) n =
-    by_splits-by_sizes (listing g e) (components_on g es) n ∙ (λ i. by_sizes (listing_of_size g e) (λ size. by_size g es size i) n)
-
 -- ---- Sequences
-
-same_made : {X A : Type 0} (f h : X → List A) (xs : List X) → ((x : X) → IsIn x xs → f x ≡ h x) → flat_map f xs ≡ flat_map h xs
-same_made f h [] same = refl
-same_made f h (x ∷ xs) same = λ i. same x (inl refl) i ++ same_made f h xs (λ y there. same y (inr there)) i
 
 -- without a part that has a label, fewer labels remain
 fewer_left : (u : List ℕ) (split : Split) → IsIn split (parts 1 (length u) u) → length split.rest < length u
@@ -131,25 +114,6 @@ repeated g e card (label ∷ ls) some =
     ap (λ (some : List (List Structure)). if admits_some card then some else [])
     (same_others (listing g e) (list_repeated (listing g e) (length ls) (after_one card)) (repeated_on g e (after_one card)) (label ∷ ls)
     (λ v fewer. enough_repeated (listing g e) (length ls) (length v) (after_one card) v (omega (arith, fewer)) (omega arith)))
-
--- components of one expression are together at least as large as the least size for each
-copies_below : (g : Grammar) (e : Expression) (least : ℕ) (ps : Structures) → IsLeast g e least → are_of g e ps ≡ true → length (part_list ps) * least ≤ length (labels_of_parts ps)
-copies_below g e least no_parts is_least of = omega (arith, none least)
-  where
-    none : (n : ℕ) → 0 * n ≡ 0
-    none n = grind arith
-copies_below g e least (more_parts s ps) is_least of =
-    let both : (is_of g e s ≡ true) × (are_of g e ps ≡ true) = and_parts _ _ of in
-    omega (
-      arith,
-      one_more (length (part_list ps)) least,
-      not_smaller g e least s is_least both.0,
-      copies_below g e least ps is_least both.1,
-      length-append (labels s) (labels_of_parts ps),
-    )
-  where
-    one_more : (k n : ℕ) → suc k * n ≡ n + k * n
-    one_more k n = grind arith
 
 -- ---- on any supply as on the first labels
 
@@ -222,23 +186,6 @@ module _ (g : Grammar) (full : OfNone (HoldsNull g) g.rules) (ranks : List ℕ) 
       sym ((bound_lists g full ranks ranked kind.Sequence e card other there).only u (map sequence (repeated_on g e other u)) supplied
       (sequences_are g e other u (repeated_on g e other u) (repeated_lists e card other u there supplied)))
 
-  pub few_repeated : (e : Expression) (card other : Card) (least : ℕ) (u : List ℕ) → is_supply g.universe u ≡ true → IsIn (expr.Many kind.Sequence e card) (all_nodes g.rules)
-      → IsLeast g e least → length u < other.low * least → repeated_on g e other u ≡ []
-  few_repeated e card other least u supplied there is_least few = is_empty (repeated_on g e other u) never
-    where
-      never : (ss : List Structure) → IsIn ss (repeated_on g e other u) → ⊥
-      never ss within =
-          let one = (repeated_lists e card other u there supplied).sound ss within in
-          let both = and_parts (admits other (length (part_list (parts_of ss)))) (are_of g e (parts_of ss)) one.0 in
-          let size_is : length (labels_of_parts (parts_of ss)) ≡ length u = sym (length-ascending (labels_of_parts (parts_of ss))) ∙ ap length one.1 in
-          omega (
-            arith,
-            few,
-            size_is,
-            copies_below g e least (parts_of ss) is_least both.1,
-            mul-le other.low least (length (part_list (parts_of ss))) least (low_admitted other (length (part_list (parts_of ss))) both.0) (omega arith),
-          )
-
   pub components_alike : (earlier later : List Expression) (u : List ℕ) → IsIn (expr.Prod (expressions_of (earlier ++ later))) (all_nodes g.rules) → is_supply g.universe u ≡ true
       → components_on g (expressions_of later) u ≡ map (map (relabelled u)) (components_on g (expressions_of later) (supply g.universe (length u)))
   components_alike earlier later u there supplied =
@@ -277,14 +224,10 @@ listings_recur = record {
   union = λ g es u spec founded there supplied. let found = ranks_exist g founded in union_recurs g founded.no_null_elements found.0 found.1 es u there supplied;
   prod = λ g earlier later u spec founded there supplied.
       let found = ranks_exist g founded in prod_recurs g founded.no_null_elements found.0 found.1 earlier later u there supplied;
-  by_size = by_size;
-  between = λ g earlier e later least others u spec founded supplied there are_least. between g e later least others u are_least;
   sequence = λ g e card other u spec founded there supplied.
       let found = ranks_exist g founded in sequence_recurs g founded.no_null_elements found.0 found.1 e card other u there supplied;
   empty = λ g e card. refl;
   repeated = repeated;
-  few = λ g e card other least u spec founded supplied there is_least few.
-      let found = ranks_exist g founded in few_repeated g founded.no_null_elements found.0 found.1 e card other least u supplied there is_least few;
   alike = alike;
   alike_components = λ g earlier later u spec founded there supplied.
       let found = ranks_exist g founded in components_alike g founded.no_null_elements found.0 found.1 earlier later u there supplied;

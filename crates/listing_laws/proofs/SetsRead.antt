@@ -8,11 +8,10 @@ use Rattle.std.proofs.lemmas.Cmp.{nat_cmp_total, tied_itself}
 use Rattle.std.proofs.lemmas.List.{length-map}
 use Rattle.std.proofs.lemmas.Option.{same_Some, slice_get-map}
 use Rattle.spec_syntax.specs.declared.expr.Card.{Card}
-use Rattle.spec_syntax.specs.declared.expr.Kind.{Kind}
 use Rattle.spec_syntax.specs.declared.expr.Kind.TheVariants as kind
 use Rattle.spec_syntax.specs.Card.{admits}
 use Rattle.spec_syntax.specs.Expression as expr
-use Rattle.spec_syntax.specs.Expression.{preorder, Expression, Expressions, no_expressions, more_expressions}
+use Rattle.spec_syntax.specs.Expression.{Expression, Expressions, no_expressions, more_expressions}
 use Rattle.spec_syntax.specs.Rules.{right_side}
 use Rattle.spec_syntax.specs.Grammar.{Grammar}
 use Rattle.struct_model.specs.declared.tree.Form5.{Form5}
@@ -26,11 +25,9 @@ use Rattle.struct_model.proofs.KeyOrder.{is_same}
 use Rattle.well_founded.specs.Sets.{with_sets, all_with_sets, reading_sets}
 use Rattle.well_founded.specs.Sizes.{IsOf}
 use Rattle.well_founded.specs.Rank.{StandsAt}
-use Rattle.well_founded.specs.WellFounded.{HasNullElement}
 use Rattle.well_founded.proofs.SetsLaws.{symbol_reading, right_reading, argument_reading, epsilon_reading, atom_reading}
 use Rattle.lists.proofs.Tests.{held}
 use Rattle.well_founded.proofs.LeastLaws.{HasRule, rule_of, names_from}
-use Rattle.listing_laws.specs.Laws.{IsNeverEmpty}
 use Rattle.listing_laws.proofs.Containers.{parts_pass, list_is, no_list, no_product}
 use Rattle.lists.proofs.Enumerated.{in_map}
 use Rattle.listing_laws.proofs.OrderKept.{EachOne, sorted_kept, least_rotation_kept}
@@ -264,15 +261,3 @@ module _ (g : Grammar) where
     read_each no_parts (more_expressions e es) of = absurd (true≢false (sym of))
     read_each (more_parts s ss) no_expressions of = absurd (true≢false (sym of))
     read_each (more_parts s ss) (more_expressions e es) of = let both = and_parts _ _ of in and_from _ _ (read_of s e both.0) (read_each ss es both.1)
-
-  -- where no container stands over a class with a structure of size 0, no structure of an element is empty
-  pub never_empty : (right : Expression) → (HasNullElement g right → ⊥) → (kind : Kind) (e : Expression) (card : Card) → IsIn (expr.Many kind e card) (preorder right) → IsNeverEmpty g e
-  never_empty right full kind e card there s of empty = full (record {
-    kind = kind;
-    element = e;
-    card = card;
-    held = there;
-    empty = in_sets s;
-    is_of = read_of s e of;
-    is_empty = size-in_sets s ∙ empty;
-  })

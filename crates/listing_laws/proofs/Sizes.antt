@@ -1,11 +1,7 @@
 -- Numbers of labels and of atoms.
 use Rattle.std.proofs.Common.{◌≡◌, ℕ, List, length, sym, ap, ◌∙◌}
-use Rattle.struct_model.specs.Structure.{Structure, labels, labels_of_parts, parts_of, size, key}
+use Rattle.struct_model.specs.Structure.{Structure, labels, size, key}
 use Rattle.lists.proofs.Ascending.{length-ascending}
-
--- the number of atoms of all the components
-abbrev pub size_of_all : List Structure → ℕ
-size_of_all ss = length (labels_of_parts (parts_of ss))
 
 -- a structure has as many atoms as its key has labels
 pub size_is : (u : List ℕ) (s : Structure) → key s ≡ u → size s ≡ length u

@@ -1,10 +1,9 @@
 -- The laws of listings.
-use Rattle.std.specs.Prelude.{◌≡◌, ◌≤◌, ◌<◌, ℕ, ◌-◌, ◌*◌, true, false, List, [], ◌∷◌, ◌++◌, map, replicate, length, IsTrue, Option, Some, None, if◌then◌else◌}
-use Rattle.std.specs.List.{list_all, sum}
+use Rattle.std.specs.Prelude.{◌≡◌, ◌<◌, ℕ, true, false, List, [], ◌∷◌, ◌++◌, map, length, IsTrue, Option, Some, None, if◌then◌else◌}
 use Rattle.spec_syntax.specs.declared.expr.Card.{Card}
 use Rattle.spec_syntax.specs.declared.expr.Kind.{Kind}
 use Rattle.spec_syntax.specs.declared.expr.Kind.TheVariants as kind
-use Rattle.spec_syntax.specs.Expression.{Expression, Expressions, Epsilon, Atom, Name, Union, Prod, Many, preorder, is_sequence_at_most, no_expressions, more_expressions, expressions_of, expression_list}
+use Rattle.spec_syntax.specs.Expression.{Expression, Expressions, Epsilon, Atom, Name, Union, Prod, Many, no_expressions, more_expressions, expressions_of, expression_list}
 use Rattle.spec_syntax.specs.Rules.{symbol, right_side, all_nodes, is_spec, are_sequences}
 use Rattle.spec_syntax.specs.Grammar.{Grammar}
 use Rattle.struct_model.specs.Structure.{Structure, size}
@@ -13,14 +12,13 @@ use Rattle.lists.specs.Enumeration.{IsIn}
 use Rattle.struct_model.specs.Listing.{Lists}
 use Rattle.struct_model.specs.Bounded.{listing}
 use Rattle.well_founded.specs.declared.refused.Refused.TheVariants.{Endless}
-use Rattle.well_founded.specs.Sizes.{no_least, IsLeast}
-use Rattle.well_founded.specs.Names.{used_names, undefined_name}
-use Rattle.well_founded.specs.WellFounded.{HasNullElement, HoldsCycle, HoldsNull, OfNone, IsEachProductive, IsWellFounded, IsCulprit}
+use Rattle.well_founded.specs.Sizes.{no_least}
+use Rattle.well_founded.specs.Names.{undefined_name}
+use Rattle.well_founded.specs.WellFounded.{HoldsCycle, HoldsNull, OfNone, IsEachProductive, IsWellFounded, IsCulprit}
 use Rattle.splits.specs.Splits.{Split, splits}
 use Rattle.splits.specs.Parts.{parts}
-use Rattle.listing_laws.specs.Lister.{Names, list_with, alternatives, by_splits, by_parts, product, sequence, after_one, admits_some, list_empty, list_no_components, list_epsilon, list_atom, named}
-use Rattle.listing_laws.specs.BySize.{by_sizes}
-use Rattle.listing_laws.specs.Recursion.{components_on, components_of, repeated_on, AreLeast}
+use Rattle.listing_laws.specs.Lister.{alternatives, by_splits, by_parts, product, sequence, after_one, admits_some, list_empty, list_no_components, list_epsilon, list_atom, named}
+use Rattle.listing_laws.specs.Recursion.{components_on, repeated_on}
 use Rattle.listing_laws.specs.Relabelled.{relabelled}
 use Rattle.listing_laws.specs.Endless.{HasEndlesslyMany}
 
@@ -42,23 +40,13 @@ abbrev pub ListsSplits : Grammar → Expression → Expressions → List ℕ →
 ListsSplits g e es u first others =
     (split : Split) → IsIn split (splits u) → Lists g e split.part (first split.part) × Lists g (Prod es) split.rest (map product (others split.rest))
 
--- up to the size, first lists the expression and the products of others list those of the other components
-abbrev pub ListsSizes : Grammar → Expression → Expressions → ℕ → (ℕ → List Structure) → (ℕ → List (List Structure)) → Type 0
-ListsSizes g e es n first others =
-    (size : ℕ) → size ≤ n → Lists g e (replicate size 0) (first size) × Lists g (Prod es) (replicate size 0) (map product (others size))
-
 -- The listing of a Prod is, split by split of the supply, by its first component and then by the listing of the others.
--- In the unlabelled universe these are the sizes of the first component from 0 upwards.
 pub record ProdIsListed : Type 0 where
   pub empty : (g : Grammar) (u : List ℕ) → Lists g (Prod no_expressions) u (map product (list_no_components u))
   pub lists : (g : Grammar) (e : Expression) (es : Expressions) (u : List ℕ) (first : List ℕ → List Structure) (others : List ℕ → List (List Structure))
       → IsTrue (is_supply g.universe u) → ListsSplits g e es u first others → Lists g (Prod (more_expressions e es)) u (map product (by_splits first others u))
   pub only : (g : Grammar) (e : Expression) (es : Expressions) (u : List ℕ) (first : List ℕ → List Structure) (others : List ℕ → List (List Structure)) (ss : List Structure)
       → IsTrue (is_supply g.universe u) → ListsSplits g e es u first others → Lists g (Prod (more_expressions e es)) u ss → ss ≡ map product (by_splits first others u)
-  pub by_size : (g : Grammar) (e : Expression) (es : Expressions) (n : ℕ) (first : ℕ → List Structure) (others : ℕ → List (List Structure)) (ss : List Structure)
-      → ListsSizes g e es n first others → Lists g (Prod (more_expressions e es)) (replicate n 0) ss → ss ≡ map product (by_sizes first others n)
-  pub sizes : (first : List ℕ → List Structure) (others : List ℕ → List (List Structure)) (n : ℕ)
-      → by_splits first others (replicate n 0) ≡ by_sizes (λ size. first (replicate size 0)) (λ size. others (replicate size 0)) n
 
 -- no structure of the expression has size 0
 abbrev pub IsNeverEmpty : Grammar → Expression → Type 0
@@ -99,17 +87,6 @@ pub record WordsAreListed : Type 0 where
   pub name : (g : Grammar) (name : List ℕ) (n : ℕ) (right : Expression) (u : List ℕ) (ss : List Structure)
       → symbol g.rules name ≡ Some n → right_side g.rules n ≡ Some right → Lists g right u ss → Lists g (Name name) u (map (named n) ss)
 
--- What an expression lists is its listing, where it has no container but Sequences, none over a class with a structure of size 0,
--- and what each of its names lists on each supply is the name's.
-abbrev pub ExpressionIsListed : Type 0
-ExpressionIsListed =
-    (g : Grammar) (names : Names) (e : Expression) (u : List ℕ)
-    → IsTrue (list_all is_sequence_at_most (preorder e))
-    → (HasNullElement g e → ⊥)
-    → ((name : List ℕ) (labels : List ℕ) → IsIn name (used_names e) → IsTrue (is_supply g.universe labels) → Lists g (Name name) labels (names name labels))
-    → IsTrue (is_supply g.universe u)
-    → Lists g e u (list_with names e u)
-
 -- on each supply the structures that are picked within the bounds are the listing of the expression, and there is no other
 pub record IsListing (g : Grammar) (e : Expression) : Type 0 where
   pub lists : (u : List ℕ) → IsTrue (is_supply g.universe u) → Lists g e u (listing g e u)
@@ -126,9 +103,9 @@ pub record WellFoundedIsListed : Type 0 where
   pub bounds : (g : Grammar) (kind : Kind) (e : Expression) (card other : Card) → IsTrue (is_spec g.rules) → IsWellFounded g
       → IsIn (Many kind e card) (all_nodes g.rules) → IsListing g (Many kind e other)
 
--- In a well founded grammar the listings are made of the listings inside. Of a Prod's first component those parts are enough that
--- the least sizes leave. A Sequence goes by the Sequences of the components after the first one, and there is none where the least
--- number of components needs more labels than there are.
+-- In a well founded grammar the listings are made of the listings inside. A Prod goes split by split of the supply, and a Sequence
+-- part by part, by the Sequences of the components after the first one. On each supply a listing is that on the first labels of
+-- the universe, with the labels of the supply in their places.
 pub record ListingsRecur : Type 0 where
   pub epsilon : (g : Grammar) (u : List ℕ) → IsTrue (is_supply g.universe u) → listing g Epsilon u ≡ list_epsilon u
   pub atom : (g : Grammar) (u : List ℕ) → IsTrue (is_supply g.universe u) → listing g Atom u ≡ list_atom u
@@ -140,19 +117,12 @@ pub record ListingsRecur : Type 0 where
   pub prod : (g : Grammar) (earlier later : List Expression) (u : List ℕ) → IsTrue (is_spec g.rules) → IsWellFounded g
       → IsIn (Prod (expressions_of (earlier ++ later))) (all_nodes g.rules) → IsTrue (is_supply g.universe u)
       → listing g (Prod (expressions_of later)) u ≡ map product (components_on g (expressions_of later) u)
-  pub by_size : (g : Grammar) (es : Expressions) (n : ℕ) → components_on g es (replicate n 0) ≡ components_of g es n
-  pub between : (g : Grammar) (earlier : List Expression) (e : Expression) (later : List Expression) (least : ℕ) (others u : List ℕ)
-      → IsTrue (is_spec g.rules) → IsWellFounded g → IsTrue (is_supply g.universe u)
-      → IsIn (Prod (expressions_of (earlier ++ e ∷ later))) (all_nodes g.rules) → AreLeast g (e ∷ later) (least ∷ others)
-      → components_on g (expressions_of (e ∷ later)) u ≡ by_parts least (length u - sum others) (listing g e) (components_on g (expressions_of later)) u
   pub sequence : (g : Grammar) (e : Expression) (card other : Card) (u : List ℕ) → IsTrue (is_spec g.rules) → IsWellFounded g
       → IsIn (Many kind.Sequence e card) (all_nodes g.rules) → IsTrue (is_supply g.universe u)
       → listing g (Many kind.Sequence e other) u ≡ map sequence (repeated_on g e other u)
   pub empty : (g : Grammar) (e : Expression) (card : Card) → repeated_on g e card [] ≡ list_empty card
   pub repeated : (g : Grammar) (e : Expression) (card : Card) (u : List ℕ) → 0 < length u
       → repeated_on g e card u ≡ (if admits_some card then by_parts 1 (length u) (listing g e) (repeated_on g e (after_one card)) u else [])
-  pub few : (g : Grammar) (e : Expression) (card other : Card) (least : ℕ) (u : List ℕ) → IsTrue (is_spec g.rules) → IsWellFounded g → IsTrue (is_supply g.universe u)
-      → IsIn (Many kind.Sequence e card) (all_nodes g.rules) → IsLeast g e least → length u < other.low * least → repeated_on g e other u ≡ []
   pub alike : (g : Grammar) (e : Expression) (u : List ℕ) → IsTrue (is_supply g.universe u) → IsListing g e
       → listing g e u ≡ map (relabelled u) (listing g e (supply g.universe (length u)))
   pub alike_components : (g : Grammar) (earlier later : List Expression) (u : List ℕ) → IsTrue (is_spec g.rules) → IsWellFounded g

@@ -1,5 +1,4 @@
 pub mod Lister
-pub mod BySize
 pub mod Laws
 pub mod Recursion
 pub mod Endless

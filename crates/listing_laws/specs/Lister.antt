@@ -1,20 +1,13 @@
--- What an expression lists on a supply of labels, by recursion on the expression, given what each name lists.
+-- What a listing on a supply of labels is put together of, for each kind of expression.
 use Rattle.std.specs.Prelude.{ℕ, zero, suc, ◌+◌, ◌-◌, Bool, List, [], ◌∷◌, ◌++◌, length, map, if◌then◌else◌}
 use Rattle.std.specs.Option.{option_map}
 use Rattle.std.specs.List.{flat_map}
 use Rattle.spec_syntax.specs.declared.expr.Card.{Card}
-use Rattle.spec_syntax.specs.declared.expr.Kind.TheVariants as kind
 use Rattle.spec_syntax.specs.Card.{is_within, admits}
-use Rattle.spec_syntax.specs.Expression as expr
-use Rattle.spec_syntax.specs.Expression.{Expression, Expressions, no_expressions, more_expressions}
 use Rattle.struct_model.specs.declared.tree.Form5.TheVariants as form
 use Rattle.struct_model.specs.Structure.{Structure, Eps, Atom, Named, Alt, Tup, parts_of}
 use Rattle.splits.specs.Splits.{splits}
 use Rattle.splits.specs.Parts.{parts}
-
--- what each name lists on a supply
-abbrev pub Names : Type 0
-Names = List ℕ → List ℕ → List Structure
 
 -- the product of these components
 abbrev pub product : List Structure → Structure
@@ -76,29 +69,6 @@ list_repeated first n card [] = list_empty card
 list_repeated first zero card (label ∷ labels) = []
 list_repeated first (suc n) card (label ∷ labels) =
     if admits_some card then by_parts 1 (length (label ∷ labels)) first (list_repeated first n (after_one card)) (label ∷ labels) else []
-
-abbrev mutual
-  -- what the expression lists on the supply. Of the containers Sequence alone lists anything here
-  pub list_with : Names → Expression → List ℕ → List Structure
-  list_with names expr.Epsilon u = list_epsilon u
-  list_with names expr.Atom u = list_atom u
-  list_with names (expr.Name name) u = names name u
-  list_with names (expr.Union arguments) u = alternatives 1 (list_each names arguments u)
-  list_with names (expr.Prod components) u = map product (list_components names components u)
-  list_with names (expr.Many kind.Sequence element card) u = map sequence (list_repeated (list_with names element) (length u) card u)
-  list_with names (expr.Many kind.Set element card) u = []
-  list_with names (expr.Many kind.PowerSet element card) u = []
-  list_with names (expr.Many kind.Cycle element card) u = []
-
-  -- what each of the expressions lists on the supply
-  pub list_each : Names → Expressions → List ℕ → List (List Structure)
-  list_each names no_expressions u = []
-  list_each names (more_expressions e es) u = list_with names e u ∷ list_each names es u
-
-  -- the lists of components, one of each expression, on the supply
-  pub list_components : Names → Expressions → List ℕ → List (List Structure)
-  list_components names no_expressions u = list_no_components u
-  list_components names (more_expressions e es) u = by_splits (list_with names e) (list_components names es) u
 
 -- what the rule of this number makes of a structure of its right side: a word takes the number, and all else is put inside
 abbrev pub named : ℕ → Structure → Structure

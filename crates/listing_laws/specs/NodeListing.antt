@@ -55,17 +55,9 @@ listing_of_rule checked sym n = rule_on checked sym (supply checked.universe n)
 abbrev pub later_on : Checked → ℕ → ℕ → List ℕ → List (List Structure)
 later_on checked node place u = components_on (grammar checked) (expressions_of (drop place (arguments_at checked.rules node))) u
 
--- those with n atoms in all
-abbrev pub components_from : Checked → ℕ → ℕ → ℕ → List (List Structure)
-components_from checked node place n = later_on checked node place (supply checked.universe n)
-
 -- the lists of components of a Sequence of the node with the bound, with the labels of a supply
 abbrev pub lists_on : Checked → ℕ → Card → List ℕ → List (List Structure)
 lists_on checked element card u = option_map_or (λ e. repeated_on (grammar checked) e card u) (node_at checked.rules element) []
-
--- those with n atoms in all
-abbrev pub repeated_of : Checked → ℕ → Card → ℕ → List (List Structure)
-repeated_of checked element card n = lists_on checked element card (supply checked.universe n)
 
 -- ---- least sizes and ranks
 
@@ -80,21 +72,18 @@ abbrev pub rule_rank : Checked → ℕ → ℕ
 rule_rank checked sym =
     option_map_or (λ right. if is_told_inside right then rank_at checked (right_node checked.rules sym) + 1 else 0) (right_side checked.rules sym) 0
 
--- the least sizes of the children of the node from the place on, together
-abbrev pub least_from : Checked → ℕ → ℕ → ℕ
-least_from checked node place = sum (map (least_at checked) (drop place (children_at checked.rules node)))
-
 -- ---- numbers
 
 abbrev pub number_of_node : Checked → ℕ → ℕ → ℕ
 number_of_node checked node n = length (listing_of_node checked node n)
 
+-- the number of lists of components, one of each child of the node from the place on, with n atoms in all
 abbrev pub number_from : Checked → ℕ → ℕ → ℕ → ℕ
-number_from checked node place n = length (components_from checked node place n)
+number_from checked node place n = length (later_on checked node place (supply checked.universe n))
 
--- the number of lists of c components of the node
+-- the number of lists of c components of the node, with n atoms in all
 abbrev pub number_of_lists : Checked → ℕ → ℕ → ℕ → ℕ
-number_of_lists checked element c n = length (repeated_of checked element (exactly c) n)
+number_of_lists checked element c n = length (lists_on checked element (exactly c) (supply checked.universe n))
 
 -- ---- laws
 

@@ -3,7 +3,7 @@
 //! This crate has no code of the program. Each law is what a function with an empty body ensures.
 #![tactic(auto)]
 
-ghost use Rattle.listing_laws.specs.Laws.{WordsAreListed, UnionIsListed, ProdIsListed, SequenceIsListed, SuppliesAreAlike, ExpressionIsListed, WellFoundedIsListed, ListingsRecur, EndlessByMembers};
+ghost use Rattle.listing_laws.specs.Laws.{WordsAreListed, UnionIsListed, ProdIsListed, SequenceIsListed, SuppliesAreAlike, WellFoundedIsListed, ListingsRecur, EndlessByMembers};
 ghost use Rattle.listing_laws.specs.Numbers.{NumbersRecur};
 ghost use Rattle.listing_laws.specs.NodeListing.{NodesAreListed, NodesAreCounted};
 
@@ -19,7 +19,6 @@ pub fn union_is_listed()
 {}
 
 /// The listing of a Prod is, split by split of the supply, by its first component and then by the listing of the others.
-/// In the unlabelled universe that is by the size of the first component from 0 upwards.
 pub fn prod_is_listed()
     ensures { ProdIsListed }
 {}
@@ -37,12 +36,6 @@ pub fn supplies_are_alike()
     ensures { SuppliesAreAlike }
 {}
 
-/// What an expression without containers but Sequences lists is its listing, where what each of its names lists on each
-/// supply is the name's and no Sequence is over a class with a structure of size 0.
-pub fn expression_is_listed()
-    ensures { ExpressionIsListed }
-{}
-
 /// Where a grammar is well founded, there is exactly one listing of each name, of each expression in the rules, of the last
 /// components of each Prod in them and of each container in them with any bound, and the structures that are picked within
 /// the bounds are it.
@@ -50,9 +43,9 @@ pub fn well_founded_is_listed()
     ensures { WellFoundedIsListed }
 {}
 
-/// The listing of an expression of a well-founded grammar by the listings of the expressions inside it. Of a Prod's
-/// component those parts of the supply are enough that the least sizes leave, which in the unlabelled universe are sizes. A
-/// Sequence goes part by part. On each supply the listing is that on the first labels, with the supply's in their places.
+/// The listing of an expression of a well-founded grammar by the listings of the expressions inside it. A Prod goes split by
+/// split of the supply, and a Sequence part by part. On each supply the listing is that on the first labels, with the
+/// supply's in their places.
 pub fn listings_recur()
     ensures { ListingsRecur }
 {}
@@ -94,7 +87,6 @@ mod tests {
         prod_is_listed();
         sequence_is_listed();
         supplies_are_alike();
-        expression_is_listed();
         well_founded_is_listed();
         listings_recur();
         numbers_recur();

@@ -1,5 +1,5 @@
 -- Filters whose tests agree on the elements.
-use Rattle.std.proofs.Common.{◌≡◌, Bool, true, false, cond, List, [], ◌∷◌, filter, refl, sym, ap, ◌∙◌, inl, inr, true≢false}
+use Rattle.std.proofs.Common.{◌≡◌, Bool, true, false, cond, List, [], ◌∷◌, filter, refl, ap, ◌∙◌, inl, inr}
 use Rattle.std.proofs.lemmas.Bool.{cond-true, cond-false}
 use Rattle.lists.specs.Enumeration.{IsIn}
 
@@ -17,16 +17,3 @@ module _ {X : Type 0} where
   pub filter_none : (p : X → Bool) (xs : List X) → ((x : X) → IsIn x xs → p x ≡ false) → filter p xs ≡ []
   filter_none p [] none = refl
   filter_none p (x ∷ xs) none = cond-false (p x) _ _ (none x (inl refl)) ∙ filter_none p xs (λ y there. none y (inr there))
-
-  -- a narrower test alone decides
-  pub filter_twice : (wide narrow : X → Bool) (xs : List X) → ((x : X) → narrow x ≡ true → wide x ≡ true) → filter narrow (filter wide xs) ≡ filter narrow xs
-  filter_twice wide narrow [] within = refl
-  filter_twice wide narrow (x ∷ xs) within = by (wide x) (narrow x) refl refl (filter_twice wide narrow xs within)
-    where
-      by : (w n : Bool) → wide x ≡ w → narrow x ≡ n → filter narrow (filter wide xs) ≡ filter narrow xs
-          → filter narrow (cond w (x ∷ filter wide xs) (filter wide xs)) ≡ cond n (x ∷ filter narrow xs) (filter narrow xs)
-      by true true is_wide is_narrow others =
-          ap (λ b. cond b (x ∷ filter narrow (filter wide xs)) (filter narrow (filter wide xs))) is_narrow ∙ ap (λ ys. x ∷ ys) others
-      by true false is_wide is_narrow others = ap (λ b. cond b (x ∷ filter narrow (filter wide xs)) (filter narrow (filter wide xs))) is_narrow ∙ others
-      by false true is_wide is_narrow others = absurd (true≢false (sym (within x is_narrow) ∙ is_wide))
-      by false false is_wide is_narrow others = others

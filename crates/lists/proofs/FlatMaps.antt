@@ -1,7 +1,7 @@
 -- Lists of what each element gives, and ranges.
-use Rattle.std.proofs.Common.{◌≡◌, ℕ, zero, suc, ◌+◌, ◌<◌, Bool, true, false, cond, List, [], ◌∷◌, ◌++◌, filter, flat_map, take, get_or, length, refl, ap, ◌∙◌, inl, inr, arith}
+use Rattle.std.proofs.Common.{◌≡◌, ℕ, zero, suc, ◌+◌, Bool, true, false, cond, List, [], ◌∷◌, ◌++◌, filter, flat_map, refl, ap, ◌∙◌, inl, inr, arith}
 use Rattle.std.specs.List.{range_with_len}
-use Rattle.std.proofs.lemmas.List.{append-nil, take_more}
+use Rattle.std.proofs.lemmas.List.{append-nil}
 use Rattle.std.proofs.lemmas.Grind.{flat_map-append}
 use Rattle.lists.specs.Enumeration.{IsIn}
 
@@ -24,11 +24,6 @@ module _ {X A : Type 0} (f : X → List A) where
       by : (b : Bool) → keep x ≡ b → flat_map f xs ≡ flat_map f (filter keep xs) → f x ++ flat_map f xs ≡ flat_map f (cond b (x ∷ filter keep xs) (filter keep xs))
       by true kept others = ap (λ rest. f x ++ rest) others
       by false left others = ap (λ first. first ++ flat_map f xs) (none x (inl refl) left) ∙ others
-
-  -- a loop over the elements that has come past place i
-  pub flat_map-take : (xs : List X) (i : ℕ) (d : X) → i < length xs → flat_map f (take (i + 1) xs) ≡ flat_map f (take i xs) ++ f (get_or xs i d)
-  flat_map-take xs i d h =
-      ap (flat_map f) (take_more xs i d h) ∙ flat_map-append f (take i xs) (get_or xs i d ∷ []) ∙ ap (λ rest. flat_map f (take i xs) ++ rest) (append-nil (f (get_or xs i d)))
 
 -- ---- ranges
 

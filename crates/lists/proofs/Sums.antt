@@ -1,5 +1,5 @@
 -- Sums of numbers, and of what is made of each.
-use Rattle.std.proofs.Common.{◌≡◌, ℕ, zero, suc, ◌+◌, ◌≤◌, List, [], ◌∷◌, map, take, drop, slice_get, Some, ap, ◌∙◌, arith}
+use Rattle.std.proofs.Common.{◌≡◌, ℕ, zero, suc, ◌+◌, List, [], ◌∷◌, map, take, drop, slice_get, Some, ap, ◌∙◌, arith}
 use Rattle.std.specs.List.{sum, sum_by}
 use Rattle.std.proofs.lemmas.List.Sums.{sum_by_from}
 use Rattle.lists.proofs.Places.{drop_at}
@@ -24,8 +24,3 @@ module _ {X : Type 0} (f : X → ℕ) where
 
   pub sum_drop : (xs : List X) (i : ℕ) (x : X) → slice_get xs i ≡ Some x → sum (map f (drop i xs)) ≡ f x + sum (map f (drop (i + 1) xs))
   sum_drop xs i x at = ap (λ ys. sum (map f ys)) (drop_at xs i x at) ∙ sum_more (f x) (map f (drop (i + 1) xs))
-
-  pub sum_fewer : (xs : List X) (i : ℕ) → sum (map f (drop i xs)) ≤ sum (map f xs)
-  sum_fewer xs zero = omega arith
-  sum_fewer [] (suc i) = omega arith
-  sum_fewer (x ∷ xs) (suc i) = omega (arith, sum_fewer xs i, sum_more (f x) (map f xs))

@@ -1,5 +1,5 @@
 -- Laws of the rules of a specification.
-use Rattle.std.proofs.Common.{◌≡◌, ◌≤◌, subst, slice_get, Option, length-append, ℕ, zero, suc, ◌+◌, ◌<◌, length, drop, add-one, Some, Bool, true, false, cond, List, [], ◌∷◌, ◌++◌, None, IsTrue, refl, sym, ap, ◌∙◌, arith}
+use Rattle.std.proofs.Common.{◌≡◌, ◌≤◌, subst, ℕ, zero, suc, ◌+◌, ◌<◌, length, drop, add-one, Some, Bool, true, false, cond, List, [], ◌∷◌, ◌++◌, None, IsTrue, refl, sym, ap, ◌∙◌, arith}
 use Rattle.std.specs.List.{list_any, position_from}
 use Rattle.std.specs.Map.{lookup}
 use Rattle.std.specs.Option.{option_map}
@@ -7,7 +7,7 @@ use Rattle.std.specs.Cmp.Lexicographic.{same_text}
 use Rattle.lists.specs.Enumeration.{IsIn}
 use Rattle.lists.proofs.Places.{in_of_get}
 use Rattle.lists.proofs.Positions.{found_at, found_within}
-use Rattle.spec_syntax.specs.Expression.{Expression, preorder, nodes}
+use Rattle.spec_syntax.specs.Expression.{Expression}
 use Rattle.spec_syntax.specs.Rules.{Rules, is_same_name, symbol, right_side, all_nodes, rule_name, are_names_distinct, is_spec}
 
 -- what no element of a list passes, an element in the middle does not
@@ -49,29 +49,9 @@ pub symbol-within : (rules : Rules) (name : List ℕ) (n : ℕ) → symbol rules
 symbol-within rules name n found =
     let within : (1 ≤ n) × (n < 1 + length rules) = found_within (λ (rule : List ℕ × Expression). is_same_name rule.0 name) rules 1 n found in (omega arith, omega arith)
 
-nodes-slice_get : (rules : Rules) (i : ℕ) (rule : List ℕ × Expression) → slice_get rules i ≡ Some rule → nodes rule.1 ≤ length (all_nodes rules)
-nodes-slice_get [] i rule at = cc
-nodes-slice_get (first ∷ rules) zero rule at =
-    let same : first ≡ rule = cc in
-    let P : List ℕ × Expression → Type 0 = λ r. nodes r.1 ≤ length (all_nodes (first ∷ rules)) in
-    subst P same (omega (arith, length-append (preorder first.1) (all_nodes rules)))
-nodes-slice_get (first ∷ rules) (suc i) rule at = omega (arith, nodes-slice_get rules i rule at, length-append (preorder first.1) (all_nodes rules))
-
 -- a specification has at most 128 nodes
 pub all_nodes-from_spec : (rules : Rules) → IsTrue (is_spec rules) → length (all_nodes rules) ≤ 128
 all_nodes-from_spec rules facts = grind (arith, facts)
-
--- a right side of a specification has at most 128 nodes
-pub nodes-right_side_le : (rules : Rules) (n : ℕ) (right : Expression) → IsTrue (is_spec rules) → right_side rules n ≡ Some right → nodes right ≤ 128
-nodes-right_side_le rules zero right facts at = cc
-nodes-right_side_le rules (suc i) right facts at = by (slice_get rules i) refl at
-  where
-    by : (found : Option (List ℕ × Expression)) → slice_get rules i ≡ found → option_map (λ (rule : List ℕ × Expression). rule.1) found ≡ Some right → nodes right ≤ 128
-    by None e at = cc
-    by (Some rule) e at =
-        let same : rule.1 ≡ right = cc in
-        let P : Expression → Type 0 = λ right. nodes right ≤ 128 in
-        subst P same (omega (arith, nodes-slice_get rules i rule e, all_nodes-from_spec rules facts))
 
 -- a name with a rule has the right side of the rule
 pub symbol_right : (rules : Rules) (name : List ℕ) (sym : ℕ) → symbol rules name ≡ Some sym → (right : Expression) × (right_side rules sym ≡ Some right)

@@ -184,14 +184,6 @@ module _ (lengths : List Bool) (labels part : List ℕ) (place kept : ℕ) (long
       to_front place
       ∙ (ap (λ (ns : List ℕ). option_or (behind (take kept part) (following lengths kept ns (drop place labels))) found) (sym (drop_all kept part (omega arith))) ∙ s.next)
 
-  pub grown_keeps : IfSome grown (λ c. c.kept ≤ length part)
-  grown_keeps =
-      some_or (change_to longer kept place (length labels)) change (λ c. c.kept ≤ length part) (to_keeps longer kept place (length labels) (length part) s.within) s.keeps
-
-  pub grown_takes : IfSome grown (λ c. c.place + c.taken ≤ length labels)
-  grown_takes =
-      some_or (change_to longer kept place (length labels)) change (λ c. c.place + c.taken ≤ length labels) (to_takes longer kept place (length labels) (omega arith)) s.takes
-
 -- no label is left
 pub sought_is : (lengths : List Bool) (labels part : List ℕ) (place kept : ℕ) (longer : Option ℕ) (change : Option Change) → length labels ≤ place
     → Sought lengths labels part place kept longer change → option_map (changed labels part) change ≡ following lengths 0 part labels

@@ -1,5 +1,5 @@
 -- Rows of Pascal's triangle as they grow.
-use Rattle.std.proofs.Common.{◌≡◌, ℕ, ◌+◌, ◌-◌, ◌<◌, List, [], ◌∷◌, ◌++◌, length, get_or, refl, sym, ap, ◌∙◌, subst, inl, inr, arith, Option, Some}
+use Rattle.std.proofs.Common.{◌≡◌, ℕ, ◌+◌, ◌-◌, ◌<◌, List, [], ◌∷◌, ◌++◌, length, get_or, sym, ap, ◌∙◌, subst, inl, inr, arith, Option, Some}
 use Rattle.std.proofs.lemmas.Bool.{cases_lt}
 use Rattle.std.proofs.Math.Seq.{get_or-append_seam}
 use Rattle.std.proofs.lemmas.List.{get_or_append_left, length-append}
@@ -20,9 +20,6 @@ choices_push n numbers number are told d other within = elim (cases_lt d (length
 
 one_tells : (n : ℕ) → n ≡ 1 → Tells (Some 1) n
 one_tells n same = (sym same, omega arith)
-
-pub first_choice : (n : ℕ) → AreChoices n (Some 1 ∷ [])
-first_choice n = choices_push n [] (Some 1) (λ d other within. absurd (omega arith)) (one_tells (choose n 0) refl)
 
 -- the sum of two neighbours of the row before
 pub next_choice : (row numbers : List (Option ℕ)) (d : ℕ) (left right number : Option ℕ) → AreChoices (length row - 1) row → AreChoices (length row) numbers

@@ -69,9 +69,6 @@ module _ (label : ℕ) (labels : List ℕ) (least : AtLeast label labels) (risen
   begins_with : (n : ℕ) (ns rest : List ℕ) → label < n → begins_above label (record { part = n ∷ ns; rest = rest }) ≡ true
   begins_with n ns rest h = grind (arith, nat_tests)
 
-  split_of : List ℕ → List ℕ → Split
-  split_of part rest = record { part = part; rest = rest }
-
   -- the part begins above the first label, so the rest begins with it
   leaves : (n : ℕ) (ns rest : List ℕ) → label < n → MakesUp whole (record { part = n ∷ ns; rest = rest }) → Leaving (record { part = n ∷ ns; rest = rest })
   leaves n ns [] h s = absurd (not_above (n ∷ ns ++ []) s.whole (each_append (From (suc label)) (n ∷ ns) [] (raised n ns h s.part) tt))

@@ -14,8 +14,8 @@ use std::mem;
 use struct_model::{Labels, Supply};
 
 /// A walk over the parts of a supply whose length is one of some admitted lengths, in lexicographic order, a prefix first,
-/// each with what remains of the supply. The time to the next part doesn't depend on how many parts of other lengths lie
-/// between. A contract sees the universe of the supply, and the list of those that are still to come.
+/// each with what remains of the supply. No part of another length is made. A contract sees the universe of the supply, and
+/// the list of those that are still to come.
 #[derive(Drop)]
 pub struct LengthWalk {
     supply: Supply,

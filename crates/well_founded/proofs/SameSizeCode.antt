@@ -1,16 +1,14 @@
 -- What the code that finds the graph of one size needs at each step.
-use Rattle.std.proofs.Common.{◌≡◌, ◌⊎◌, inl, inr, ℕ, zero, suc, ◌+◌, ◌-◌, ◌<◌, ◌≤◌, Bool, true, false, ◌&&◌, List, [], ◌∷◌, ◌++◌, length, min, take, drop, get_or, is_some, refl, sym, ap, ◌∙◌, arith, append_assoc, length-append, Option, Some, None}
+use Rattle.std.proofs.Common.{◌≡◌, ◌⊎◌, inl, inr, ℕ, ◌+◌, ◌-◌, ◌<◌, ◌≤◌, Bool, true, false, ◌&&◌, List, [], ◌∷◌, ◌++◌, length, min, drop, get_or, is_some, refl, sym, ap, ◌∙◌, arith, append_assoc, Option, Some, None}
 use Rattle.std.specs.List.{list_all}
 use Rattle.std.specs.Option.{option_map_or, option_and_then}
 use Rattle.std.proofs.lemmas.List.{drop_more, drop_all, append-nil}
 use Rattle.std.proofs.lemmas.Bool.{cases_lt}
 use Rattle.spec_syntax.specs.Expression as expr
-use Rattle.spec_syntax.specs.Expression.{Expression, preorder, nodes, expressions_of, expression_list}
-use Rattle.spec_syntax.specs.Rules.{Rules, symbol, right_side, all_nodes}
-use Rattle.graphs.specs.Graph.{Graph}
+use Rattle.spec_syntax.specs.Expression.{Expression, nodes, expressions_of}
+use Rattle.spec_syntax.specs.Rules.{Rules, symbol, right_side}
 use Rattle.spec_syntax.specs.Nodes.{right_node}
-use Rattle.spec_syntax.specs.Nodes.{all_right_nodes}
-use Rattle.well_founded.specs.SameSize.{is_null, alone_from, is_told_inside, picked, followers, followers_from}
+use Rattle.well_founded.specs.SameSize.{is_null, alone_from, is_told_inside, picked, followers}
 use Rattle.spec_syntax.proofs.NodeSteps.{expressions_step}
 use Rattle.spec_syntax.proofs.ExpressionLemmas.{list_of}
 
@@ -51,10 +49,6 @@ module _ (sizes : Expression → Option ℕ) where
   alone_step before es i e within is =
       ap (λ others. alone_from sizes before (expressions_of others)) (expressions_step es i e within is)
       ∙ ap (λ others. (before && is_some (sizes e) && list_all (λ other. is_null (sizes other)) others) ∷ alone_from sizes (before && is_null (sizes e)) (expressions_of (drop (i + 1) es))) (list_of (drop (i + 1) es))
-
-  pub null_step : (es : List Expression) (i : ℕ) (e : Expression) → i < length es → e ≡ get_or es i e
-      → list_all (λ other. is_null (sizes other)) (drop i es) ≡ (is_null (sizes e) && list_all (λ other. is_null (sizes other)) (drop (i + 1) es))
-  null_step es i e within is = ap (list_all (λ other. is_null (sizes other))) (expressions_step es i e within is)
 
   -- one more component
   pub flags_step : (es : List Expression) (i : ℕ) (e : Expression) (size : Option ℕ) (before behind flag later : Bool) (all old new : List Bool) → i < length es → e ≡ get_or es i e

@@ -112,13 +112,6 @@ module _ (g : Grammar) (sizes : Expression → Option ℕ) (sized : (e : Express
       by None none = absurd (none (s, of))
       by (Some n) h = least n h.1
 
-  from_some : (e : Expression) → may_hold_cycles g e ≡ true → is_some (sizes e) ≡ true → (s : Structure) × IsOf g e s
-  from_some e allowed some = by (sizes e) (sized e allowed) some
-    where
-      by : (o : Option ℕ) → IsSize g e o → is_some o ≡ true → (s : Structure) × IsOf g e s
-      by None none some = absurd (true≢false (sym some))
-      by (Some n) h some = h.0
-
   pub from_null : (e : Expression) → may_hold_cycles g e ≡ true → is_null (sizes e) ≡ true → (s : Structure) × IsOf g e s × (labels s ≡ [])
   from_null e allowed null = by (sizes e) (sized e allowed) null
     where
