@@ -1,10 +1,11 @@
 -- What contracts see of the numbers of a class.
-use Rattle.std.specs.Prelude.{◌≡◌, ℕ, Some, slice_get}
+use Rattle.std.specs.Prelude.{◌≡◌, ◌≤◌, ℕ, Some, slice_get, IsSome}
 use Rattle.std.specs.Option.{option_map_or}
 use Rattle.spec_syntax.specs.Nodes.{node_at, arguments_at}
 use Rattle.spec_syntax.specs.Grammar.{Grammar}
 use Rattle.struct_model.specs.Bounded.{number}
 use Rattle.well_founded.specs.Checked.{Checked, grammar}
+use Rattle.listing_laws.specs.NodeListing.{IsListable}
 use Rattle.size_counts.specs.declared.place.CountFault.{CountFault}
 use Rattle.size_counts.specs.declared.place.CountFault.TheVariants.{TooLarge, Memory}
 use Rattle.size_counts.specs.Reached.{IsReached}
@@ -14,6 +15,13 @@ use Rattle.size_counts.specs.Numbers.{NumbersSay, suffix_number, list_number}
 pub record Counts : Type 0 where
   pub checked : Checked
   pub size : ℕ
+
+-- what holds of the numbers of each class: the grammar passed the check, no container but a Sequence stands in its rules, it has a
+-- class symbol, and the size is at most 1000
+pub record IsCounted (counts : Counts) : Type 0 where
+  pub listable : IsListable counts.checked
+  pub started : IsSome counts.checked.start
+  pub small : counts.size ≤ 1000
 
 -- the node is reached from the class
 pub record IsReachedIn (counts : Counts) (node : ℕ) : Type 0 where

@@ -1,5 +1,5 @@
 -- What is known of tables as they are filled, and once they are full.
-use Rattle.std.specs.Prelude.{◌≡◌, ℕ, ◌+◌, length, find, Option, Some, None, Result, Ok, Err}
+use Rattle.std.specs.Prelude.{◌≡◌, ℕ, ◌+◌, ◌≤◌, length, find, Option, Some, None, Result, Ok, Err}
 use Rattle.std.specs.List.{flat_map, range_with_len}
 use Rattle.well_founded.specs.Checked.{grammar}
 use Rattle.size_counts.specs.declared.place.CountFault.{CountFault}
@@ -45,3 +45,4 @@ pub record IsFull (a : Inside) : Type 0 where
   pub reached : AreReached a.tables.grammar.rules sym a.tables.marks.items
   pub told : AreTold a.tables.grammar a.tables.marks.items a.tables.layers.items
   pub filled : length a.tables.layers.items ≡ a.size + 1
+  pub small : a.size ≤ 1000

@@ -14,7 +14,7 @@ ghost use Rattle.size_counts.specs.Reached.{IsReached};
 ghost use Rattle.size_counts.specs.Numbers.{NumbersSay, first_large};
 ghost use Rattle.size_counts.specs.Told.{IsReady};
 ghost use Rattle.size_counts.specs.Ways.{CanSplit};
-ghost use Rattle.size_counts.specs.CountedView.{Counts as CountsSeen, IsReachedIn, number_of, suffix_of, lists_of, FaultSays};
+ghost use Rattle.size_counts.specs.CountedView.{Counts as CountsSeen, IsCounted, IsReachedIn, number_of, suffix_of, lists_of, FaultSays};
 ghost use Rattle.size_counts.specs.Filled.{LayerSays, FaultAt, IsFilledTo};
 
 use crate::fill::{counts, longer_each};
@@ -126,7 +126,8 @@ impl Counted {
 
     /// The grammar.
     pub fn grammar(&self) -> &Grammar
-        ensures { result.now ≡ self.now.checked }
+        ensures value { result.now ≡ self.now.checked }
+        ensures kept { IsCounted self.now }
     {
         &self.tables.grammar
     }
