@@ -1,0 +1,13 @@
+pub mod TailListings
+pub mod TailLemmas
+pub mod TailBounds
+pub mod ReachedNodes
+pub mod Measures
+pub mod StepArguments
+pub mod StepSplits
+pub mod StepParts
+pub mod StepLast
+pub mod StepForms
+pub mod StepDepth
+pub mod WalkerLemmas
+pub mod OpenLemmas

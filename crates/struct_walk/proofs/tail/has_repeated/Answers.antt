@@ -1,0 +1,20 @@
+use Rattle.std.proofs.Common.{◌<◌, refl, true≢false, sym, arith}
+use Rattle.struct_walk.proofs.TailBounds.{HasCount, some_count, count_some}
+use Rattle.struct_walk.proofs.tail.has_repeated.Goals as goal
+
+pub returns-then-lists-gt0 : goal.returns-then-lists-gt0
+returns-then-lists-gt0 c =
+    let some : 0 < c.lists.result = c.if-lists-gt0.true in (
+      λ yes. count_some c.args.counted.now c.grammar.ensures.kept c.args.node c.args.element c.args.card c.requires.elements c.loop-components.components
+          c.args.n (omega arith) (omega arith) (omega (arith, c.lists.ensures, some)),
+      λ yes. refl,
+    )
+
+pub returns : goal.returns
+returns c = (
+  λ no. absurd (true≢false (sym no)),
+  λ some.
+      let found : HasCount c.args.counted.now c.grammar.ensures.kept c.args.node c.args.element c.args.card c.requires.elements c.args.n =
+      some_count c.args.counted.now c.grammar.ensures.kept c.args.node c.args.element c.args.card c.requires.elements c.args.n some in
+      absurd (omega (arith, found.some, c.loop-components.invariant found.count found.low (omega arith))),
+)

@@ -1,0 +1,5 @@
+pub mod Tails
+pub mod After
+pub mod Stands
+pub mod Opened
+pub mod WalkerView

@@ -1,0 +1,54 @@
+//! What comes later than a structure, among those of a node with the labels of a supply.
+
+use crate::tail::Cut;
+use splits::LengthWalk;
+use struct_model::{Form5, Supply};
+
+/// What comes later than a structure that is held beside it, in so far as it isn't told by the structure.
+#[cycle(later)]
+#[derive(Drop)]
+pub enum Later {
+    /// Nothing.
+    Nothing,
+    /// What comes later in the right side of the rule of this number.
+    Named(u32, Box<Later>),
+    /// What comes later in the Union's argument of this number, which is the last that has a structure.
+    Chosen(u32, Box<Later>),
+    /// What comes later in an argument of a Union, and then the later arguments.
+    Argument(Box<Argument>, Box<Later>),
+    /// What comes later in a list of components.
+    Components(Form5, Box<LaterLists>),
+}
+
+/// An argument of a Union that is being walked, and the labels of its structures.
+#[derive(Drop)]
+pub struct Argument {
+    /// The node of the Union.
+    pub(crate) node: u32,
+    /// The number of the argument, counted from 1.
+    pub(crate) number: u32,
+    pub(crate) supply: Supply,
+}
+
+/// What comes later than a list of components, from one of them on.
+#[cycle(later)]
+#[derive(Drop)]
+pub enum LaterLists {
+    /// Nothing.
+    Nothing,
+    /// What comes later in the last component, which has all labels.
+    Last(Later),
+    /// What comes later behind this component, then with later ones in its place on the same split of the labels, and then
+    /// with those on the splits that come.
+    Parts(Box<Level>, Later, Box<LaterLists>),
+}
+
+/// Where a component stands: its node and what stands behind it, the labels that its split leaves for that, and the splits to
+/// come.
+#[derive(Drop)]
+pub struct Level {
+    pub(crate) cut: Cut,
+    /// The labels of the components behind this one.
+    pub(crate) rest: Supply,
+    pub(crate) splits: LengthWalk,
+}

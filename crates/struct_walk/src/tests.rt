@@ -1,0 +1,252 @@
+//! Walks over small classes, and the first steps over large ones.
+ghost use Rattle.std.specs.Prelude.{◌≡◌, [], ◌∷◌, ◌≤◌, IfOk, IfSome, IsTrue, IsSome, length};
+ghost use Rattle.spec_syntax.specs.Rules.{is_spec, are_sequences, symbol};
+ghost use Rattle.spec_syntax.specs.Expression.{Atom as AtomOf, Name as NameOf, Union as UnionOf, Prod as ProdOf, Many as ManyOf, more_expressions, no_expressions};
+ghost use Rattle.spec_syntax.specs.declared.expr.Kind.TheVariants.{Sequence as SequenceOf};
+ghost use Rattle.struct_walk.specs.Stands.{IsAsked};
+
+use crate::{Iter, Walk, Walker};
+use size_counts::Counted;
+use spec_syntax::{Card, Expr, ExprShape, Exprs, Kind, Name, Spec, Universe};
+use std::alloc::{AllocError, Global};
+use std::test::Fail;
+use struct_model::{Form5, Labels, Shape, Struct, Supply, labels};
+use well_founded::check;
+
+/// Z.
+fn atom() -> Expr
+    ensures { result ≡ AtomOf }
+{
+    Expr {
+        shape: ExprShape::Atom,
+    }
+}
+
+/// The rule of this name.
+fn named(alloc: Global, name: &[u8]) -> Result<Expr, AllocError>
+    ensures { IfOk result (λ expr. expr ≡ NameOf name.now) }
+{
+    Ok(Expr {
+        shape: ExprShape::Name(Name::from_slice(alloc, name)?),
+    })
+}
+
+/// One and another one.
+fn both(alloc: Global, one: Expr, other: Expr) -> Result<Exprs, AllocError>
+    ensures { IfOk result (λ exprs. exprs ≡ one ∷ other ∷ []) }
+{
+    let mut exprs = Exprs::new(alloc);
+    exprs.push(one)?;
+    exprs.push(other)?;
+    Ok(exprs)
+}
+
+/// A structure of one or of the other.
+fn union_of(alloc: Global, one: Expr, other: Expr) -> Result<Expr, AllocError>
+    ensures { IfOk result (λ expr. expr ≡ UnionOf (more_expressions one (more_expressions other no_expressions))) }
+{
+    Ok(Expr {
+        shape: ExprShape::Union(both(alloc, one, other)?),
+    })
+}
+
+/// A structure of the one and one of the other.
+fn prod_of(alloc: Global, one: Expr, other: Expr) -> Result<Expr, AllocError>
+    ensures { IfOk result (λ expr. expr ≡ ProdOf (more_expressions one (more_expressions other no_expressions))) }
+{
+    Ok(Expr {
+        shape: ExprShape::Prod(both(alloc, one, other)?),
+    })
+}
+
+/// A Sequence of the element, with this bound.
+fn sequence_of(alloc: Global, element: Expr, card: Card) -> Result<Expr, AllocError>
+    ensures { IfOk result (λ expr. expr ≡ ManyOf SequenceOf element card) }
+{
+    Ok(Expr {
+        shape: ExprShape::Many(Kind::Sequence, Box::new(alloc, element)?, card),
+    })
+}
+
+/// The bound that admits any number.
+const ANY: Card = Card { low: 0, high: None };
+
+/// The rule `S = right`.
+fn one_rule(alloc: Global, right: Expr) -> Result<Spec, AllocError>
+    requires { IsTrue (is_spec ((83 ∷ [], right) ∷ [])) }
+    ensures { IfOk result (λ spec. spec ≡ (83 ∷ [], right) ∷ []) }
+{
+    let mut spec = Spec::new(alloc);
+    spec.add(Name::from_slice(alloc, b"S")?, right)?;
+    Ok(spec)
+}
+
+/// The numbers of a class, where it passes the check and no number is too large.
+fn counted(
+    alloc: Global,
+    spec: &Spec,
+    name: &Name,
+    universe: Universe,
+    size: u32,
+) -> Option<Counted>
+    requires class { IsSome (symbol spec.now name.now) }
+    requires sequences { IsTrue (are_sequences spec.now) }
+    requires small { size ≤ 1000 }
+    ensures universe { IfSome result (λ counted. counted.checked.universe ≡ universe) }
+    ensures size { IfSome result (λ counted. counted.size ≡ size) }
+{
+    let Ok(grammar) = check(alloc, spec, Some(name), universe) else {
+        return None;
+    };
+    Counted::new(alloc, grammar, size).ok()
+}
+
+/// The walk over the members of the class of the rule `S = right`, which is one that is counted.
+fn members(
+    alloc: Global,
+    right: Expr,
+    universe: Universe,
+    size: u32,
+) -> Result<Option<Iter>, AllocError>
+    requires spec { IsTrue (is_spec ((83 ∷ [], right) ∷ [])) }
+    requires sequences { IsTrue (are_sequences ((83 ∷ [], right) ∷ [])) }
+    requires small { size ≤ 1000 }
+{
+    let spec = one_rule(alloc, right)?;
+    let name = Name::from_slice(alloc, b"S")?;
+    match counted(alloc, &spec, &name, universe, size) {
+        Some(counted) => Ok(Some(Iter::first(alloc, counted)?)),
+        None => Ok(None),
+    }
+}
+
+/// Whether a member comes next, and its labels from left to right are these.
+fn is_next(alloc: Global, iter: &mut Iter, expected: &[u32]) -> Result<bool, AllocError> {
+    if iter.broken() {
+        return Ok(false);
+    }
+    match iter.next(alloc)? {
+        Some(s) => {
+            let found = labels(alloc, &s)?;
+            Ok(found.as_slice() == expected)
+        }
+        None => Ok(false),
+    }
+}
+
+/// Whether no member is left, and none comes.
+fn is_over(alloc: Global, iter: &mut Iter) -> Result<bool, AllocError> {
+    if iter.broken() || !iter.finished() {
+        return Ok(false);
+    }
+    Ok(iter.next(alloc)?.is_none())
+}
+
+/// How many members are passed until none is left, or `limit` where there are as many.
+fn passed(alloc: Global, iter: &mut Iter, limit: usize) -> Result<usize, AllocError> {
+    for count in 0..limit {
+        if iter.broken() || iter.finished() {
+            return Ok(count);
+        }
+        iter.pass(alloc)?;
+    }
+    Ok(limit)
+}
+
+/// Whether it is a structure of a Union's first argument, which is the letter of rule 2.
+fn is_first_letter(s: &Struct) -> bool {
+    if let Shape::Alt(1, inside) = &s.shape {
+        return matches!(&inside.shape, Shape::Atom(2, 0));
+    }
+    false
+}
+
+/// Whether it is a Sequence of 60 such structures, as one of rule 1.
+fn is_first_word(s: &Struct) -> bool {
+    let Shape::Named(1, inside) = &s.shape else {
+        return false;
+    };
+    let Shape::Tup(Form5::Sequence, parts) = &inside.shape else {
+        return false;
+    };
+    for part in parts.as_slice() {
+        if !is_first_letter(part) {
+            return false;
+        }
+    }
+    parts.len() == 60
+}
+
+/// The words of the letters a and b: `F = Sequence(Union(a, b)), a = Atom, b = Atom`.
+fn words(alloc: Global) -> Result<Option<Counted>, AllocError> {
+    let mut spec = Spec::new(alloc);
+    let letters = union_of(alloc, named(alloc, b"a")?, named(alloc, b"b")?)?;
+    let right = sequence_of(alloc, letters, ANY)?;
+    spec.add(Name::from_slice(alloc, b"F")?, right)?;
+    spec.add(Name::from_slice(alloc, b"a")?, atom())?;
+    spec.add(Name::from_slice(alloc, b"b")?, atom())?;
+    let name = Name::from_slice(alloc, b"F")?;
+    Ok(counted(alloc, &spec, &name, Universe::Unlabelled, 60))
+}
+
+/// The labels of the first two structures of the node on the supply, where there are two.
+fn first_two(
+    alloc: Global,
+    counted: &Counted,
+    node: u32,
+    supply: Supply,
+) -> Result<Option<(Labels, Labels)>, AllocError>
+    requires { IsAsked counted.now supply }
+{
+    if node >= counted.grammar().nodes() || !counted.reached(node) {
+        return Ok(None);
+    }
+    let mut walker = Walker::first(alloc, counted, node, supply)?;
+    let Some(one) = walker.next(alloc, counted)? else {
+        return Ok(None);
+    };
+    let Some(other) = walker.next(alloc, counted)? else {
+        return Ok(None);
+    };
+    Ok(Some((labels(alloc, &one)?, labels(alloc, &other)?)))
+}
+
+#[test]
+fn to_the_end(rt: HostRuntime) -> Result<(), Fail> {
+    let alloc = rt.alloc();
+    let list = prod_of(alloc, atom(), sequence_of(alloc, atom(), ANY)?)?;
+    let lists = sequence_of(alloc, list, ANY)?;
+    let mut iter = members(alloc, lists, Universe::Labelled, 2)?.expect(&rt, "a class");
+    assert!(rt; is_next(alloc, &mut iter, &[1, 2])?);
+    assert_eq!(rt; passed(alloc, &mut iter, 1)?, 1);
+    assert!(rt; is_next(alloc, &mut iter, &[2, 1])?);
+    assert_eq!(rt; passed(alloc, &mut iter, 9)?, 1);
+    assert!(rt; is_over(alloc, &mut iter)?);
+    let mut none = members(alloc, atom(), Universe::Labelled, 2)?.expect(&rt, "a class");
+    assert!(rt; is_over(alloc, &mut none)?);
+    Ok(())
+}
+
+#[test]
+fn the_first_of_many(rt: HostRuntime) -> Result<(), Fail> {
+    let alloc = rt.alloc();
+    let words = words(alloc)?.expect(&rt, "a class");
+    let iter = Iter::first(alloc, words)?;
+    assert!(rt; is_first_word(iter.coming().expect(&rt, "a member")));
+    Ok(())
+}
+
+#[test]
+fn other_labels(rt: HostRuntime) -> Result<(), Fail> {
+    let alloc = rt.alloc();
+    let spec = one_rule(alloc, sequence_of(alloc, atom(), ANY)?)?;
+    let name = Name::from_slice(alloc, b"S")?;
+    let words = counted(alloc, &spec, &name, Universe::Labelled, 4);
+    let words = words.expect(&rt, "a class");
+    let supply = Supply::Labels(Labels::from_slice(alloc, &[3, 5, 9])?);
+    let found = first_two(alloc, &words, 0, supply)?;
+    let (one, other) = found.expect(&rt, "two structures");
+    assert_eq!(rt; one.as_slice(), [3, 5, 9].as_slice());
+    assert_eq!(rt; other.as_slice(), [3, 9, 5].as_slice());
+    Ok(())
+}
