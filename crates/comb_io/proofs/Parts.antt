@@ -1,16 +1,10 @@
 -- Lemmas on pieces that are written part by part.
 use Rattle.std.proofs.Common.{◌≡◌, ℕ, ◌+◌, ◌-◌, ◌<◌, ◌≤◌, min, List, [], ◌∷◌, ◌++◌, Option, length, take, drop, refl, sym, ap, ◌∙◌, subst, arith, append_assoc, append-nil, length-append, length-drop, length-take, take-append-drop, take-take, drop-drop}
-use Rattle.std.proofs.Math.Seq.{take-append_seam, take-length}
-use Rattle.std.proofs.lemmas.List.{nil_from_length}
+use Rattle.std.proofs.Math.Seq.{take-append_seam, take-append-add, take-length}
+use Rattle.std.proofs.lemmas.List.{nil_from_length, take-append-le}
 use Rattle.std.proofs.KnownBytes.{Appends-nil, Appends-trans, Appends-kept}
 use Rattle.std.specs.Io.KnownBytes.{Appends, Keeps}
-use Rattle.comb_io.specs.Parts.{AppendsProperPrefix}
-
--- the part of the piece before the rest was appended
-pub record AppendsBefore (old new : Option (List ℕ)) (piece rest : List ℕ) : Type 0 where
-  pub front : List ℕ
-  pub whole : front ++ rest ≡ piece
-  pub bytes : Appends old new front
+use Rattle.comb_io.specs.Parts.{AppendsPart, AppendsProperPrefix, AppendsBefore}
 
 pub AppendsBefore-start : (a : Option (List ℕ)) (piece : List ℕ) → AppendsBefore a a piece piece
 AppendsBefore-start a piece = record { front = []; whole = refl; bytes = Appends-nil a }
@@ -42,6 +36,52 @@ AppendsBefore-stop a b c piece rest so_far some kept = record {
 pub AppendsBefore-some : (a b : Option (List ℕ)) (piece rest : List ℕ) → AppendsBefore a b piece rest → 0 < length rest → piece ≡ [] → ⊥
 AppendsBefore-some a b piece rest so_far some none =
     let e : length rest + length so_far.front ≡ 0 = omega (arith, length-append so_far.front rest, ap length (so_far.whole ∙ none)) in omega arith
+
+-- ---- pieces that are made as they are written
+
+-- all of it was appended
+pub AppendsBefore-all : (a b : Option (List ℕ)) (piece : List ℕ) → Appends a b piece → AppendsBefore a b piece []
+AppendsBefore-all a b piece h = record { front = piece; whole = append-nil piece; bytes = h }
+
+-- what follows is left too
+pub AppendsBefore-append : (a b : Option (List ℕ)) (piece rest more : List ℕ) → AppendsBefore a b piece rest → AppendsBefore a b (piece ++ more) (rest ++ more)
+AppendsBefore-append a b piece rest more h = record {
+  front = h.front;
+  whole = sym (append_assoc h.front rest more) ∙ ap (λ l. l ++ more) h.whole;
+  bytes = h.bytes;
+}
+
+pub AppendsBefore-then : (a b c : Option (List ℕ)) (piece rest left : List ℕ) → AppendsBefore a b piece rest → AppendsBefore b c rest left → AppendsBefore a c piece left
+AppendsBefore-then a b c piece rest left so_far more = record {
+  front = so_far.front ++ more.front;
+  whole = append_assoc so_far.front more.front left ∙ ap (λ l. so_far.front ++ l) more.whole ∙ so_far.whole;
+  bytes = Appends-trans a b c so_far.front more.front so_far.bytes more.bytes;
+}
+
+-- and then the rest
+pub AppendsBefore-last : (a b c : Option (List ℕ)) (piece rest : List ℕ) → AppendsBefore a b piece rest → Appends b c rest → Appends a c piece
+AppendsBefore-last a b c piece rest so_far more = subst (Appends a c) so_far.whole (Appends-trans a b c so_far.front rest so_far.bytes more)
+
+-- and then a part of the rest
+pub AppendsBefore-part : (unwritten : ℕ) (a b c : Option (List ℕ)) (piece rest : List ℕ) → AppendsBefore a b piece rest → AppendsPart unwritten b c rest → AppendsPart unwritten a c piece
+AppendsBefore-part unwritten a b c piece rest so_far more = record {
+  count = length so_far.front + more.count;
+  within = omega (arith, ap length so_far.whole, length-append so_far.front rest, more.within);
+  bytes = subst (Appends a c) (sym (take-append-add so_far.front rest more.count) ∙ ap (take (length so_far.front + more.count)) so_far.whole)
+      (Appends-trans a b c so_far.front (take more.count rest) so_far.bytes more.bytes);
+}
+
+-- nothing is appended
+pub AppendsPart-nothing : (a : Option (List ℕ)) (piece : List ℕ) → AppendsPart 0 a a piece
+AppendsPart-nothing a piece = record { count = 0; within = omega arith; bytes = Appends-nil a }
+
+-- what follows wasn't appended either
+pub AppendsPart-append : (unwritten : ℕ) (a b : Option (List ℕ)) (piece more : List ℕ) → AppendsPart unwritten a b piece → AppendsPart unwritten a b (piece ++ more)
+AppendsPart-append unwritten a b piece more h = record {
+  count = h.count;
+  within = omega (arith, length-append piece more, h.within);
+  bytes = let within : h.count ≤ length piece = omega (arith, h.within) in subst (Appends a b) (sym (take-append-le h.count piece more within)) h.bytes;
+}
 
 -- ---- a read of the front of what is left, of at most `most` bytes
 

@@ -1,6 +1,7 @@
 use Rattle.std.proofs.Common.{arith, sym, subst, ◌∙◌, ◌<◌, length}
 use Rattle.std.proofs.lemmas.Grind.{common_steps}
-use Rattle.comb_io.proofs.Parts.{AppendsBefore, AppendsBefore-more, AppendsBefore-stop, AppendsBefore-some, take-rest}
+use Rattle.comb_io.specs.Parts.{AppendsBefore}
+use Rattle.comb_io.proofs.Parts.{AppendsBefore-more, AppendsBefore-stop, AppendsBefore-some, take-rest}
 use Rattle.comb_io.proofs.Results.{OnErr-of}
 use Rattle.comb_io.proofs.sinks.write_all.Goals as goal
 

@@ -1,5 +1,5 @@
 use Rattle.std.proofs.Common.{◌≡◌, [], length}
-use Rattle.comb_io.proofs.Parts.{AppendsBefore}
+use Rattle.comb_io.specs.Parts.{AppendsBefore}
 use Rattle.comb_io.proofs.sinks.write_all.Given as goal
 
 abbrev pub invariant-loop-rest : goal.invariant-loop-rest
