@@ -16,13 +16,13 @@ use Rattle.well_founded.specs.WellFounded.{Checks}
 use Rattle.well_founded.specs.Checked.{Checked, grammar}
 use Rattle.listing_laws.specs.NodeListing.{listing_of_rule}
 use Rattle.session.specs.Refusals.{CheckIsTold}
-use Rattle.session.specs.Effect.{listing_text, number_text}
+use Rattle.session.specs.Effect.{structures_text, listing_text, number_text}
 
 -- the text of the listing of a checked class is that of the class
 pub text_listed : (checked : Checked) (symbol : List ℕ) (n size : ℕ) → symbol_of checked.rules symbol ≡ Some n
-    → codes "[" ++ maple_parts checked.rules (parts_of (listing_of_rule checked n size)) ++ codes "]\n" ≡ listing_text (grammar checked) symbol size
+    → structures_text checked.rules (listing_of_rule checked n size) ≡ listing_text (grammar checked) symbol size
 text_listed checked symbol n size found =
-    ap (λ (ss : List Structure). codes "[" ++ maple_parts checked.rules (parts_of ss) ++ codes "]\n")
+    ap (structures_text checked.rules)
     (ap (λ (name : List ℕ). listing (grammar checked) (Name name) (supply checked.universe size)) (name_own checked.rules symbol n found))
 
 -- and so is the text of its number

@@ -1,12 +1,5 @@
-pub mod ColumnLemmas
-pub mod ListerSteps
-pub mod NodeLemmas
-pub mod RelabelLemmas
-pub mod SplitLemmas
-pub mod ProdLemmas
-pub mod SequenceLemmas
-pub mod Measures
 pub mod TextLemmas
 pub mod ClassLemmas
 pub mod EffectsExist
 pub mod MakesLemmas
+pub mod MemberTexts

@@ -1,10 +1,11 @@
 -- What the code's commands ask for, and what its answers come to.
+use Rattle.std.specs.Prelude.{◌≡◌, false}
 use Rattle.session.specs.declared.answer.Command.{Command}
 use Rattle.session.specs.declared.answer.Command.TheVariants as command
 use Rattle.session.specs.declared.answer.Answer.{Answer}
 use Rattle.session.specs.declared.answer.Answer.TheVariants as told
 use Rattle.session.specs.Refusals.{IsTold}
-use Rattle.session.specs.Effect.{AnswerText, Effect, Setting, doing_nothing, answering, refusing, listing_text, number_text}
+use Rattle.session.specs.Effect.{AnswerText, Effect, Setting, doing_nothing, answering, refusing, structures_text, listing_text, number_text}
 
 -- the text that a command asks for
 abbrev pub text_of : Command → AnswerText
@@ -15,10 +16,12 @@ text_of command.List = listing_text
 abbrev pub effect_of : Answer → Setting → Effect
 effect_of told.Nothing setting = doing_nothing setting
 effect_of (told.Text text) setting = answering setting text
+effect_of (told.Members members) setting = answering setting (structures_text members.counts.checked.rules members.rest)
 effect_of (told.Refused why) setting = refusing setting why
 
--- a line can tell the answer, where it is a refusal
+-- the answer can be written: a line can tell a refusal, and a walk isn't broken
 abbrev pub CanBeTold : Answer → Type 0
 CanBeTold told.Nothing = Unit {0}
 CanBeTold (told.Text text) = Unit {0}
+CanBeTold (told.Members members) = members.is_broken ≡ false
 CanBeTold (told.Refused why) = IsTold why

@@ -13,7 +13,7 @@ use Rattle.spec_syntax.specs.declared.statement.Statement.{Statement}
 use Rattle.spec_syntax.specs.Expression.{Name}
 use Rattle.spec_syntax.specs.Rules.{Rules, rule_name, symbol as symbol_of}
 use Rattle.spec_syntax.specs.Grammar.{Grammar}
-use Rattle.struct_model.specs.Structure.{parts_of}
+use Rattle.struct_model.specs.Structure.{Structure, parts_of}
 use Rattle.struct_model.specs.Membership.{supply}
 use Rattle.struct_model.specs.Bounded.{listing, number}
 use Rattle.struct_model.specs.Text.{maple_parts}
@@ -66,9 +66,13 @@ refusing setting why = record { writes = to_err (refusal_line setting.line why);
 abbrev pub AnswerText : Type 0
 AnswerText = Grammar → List ℕ → ℕ → List ℕ
 
--- `allstructs`: the texts of the structures in Maple's form, in brackets
+-- the texts of structures in Maple's form, in brackets
+abbrev pub structures_text : Rules → List Structure → List ℕ
+structures_text rules ss = codes "[" ++ maple_parts rules (parts_of ss) ++ codes "]\n"
+
+-- `allstructs`: those of the class
 abbrev pub listing_text : AnswerText
-listing_text g symbol size = codes "[" ++ maple_parts g.rules (parts_of (listing g (Name symbol) (supply g.universe size))) ++ codes "]\n"
+listing_text g symbol size = structures_text g.rules (listing g (Name symbol) (supply g.universe size))
 
 -- `count`: how many there are
 abbrev pub number_text : AnswerText

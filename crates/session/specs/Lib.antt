@@ -4,5 +4,4 @@ pub mod Ending
 pub mod SessionView
 pub mod Laws
 pub mod Commands
-pub mod Columns
-pub mod NodeListing
+pub mod Members

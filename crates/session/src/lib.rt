@@ -2,14 +2,10 @@
 #![tactic(auto)]
 
 mod answer;
-mod column;
-mod components;
 mod fault;
 mod laws;
-mod list;
+mod members;
 mod refusal;
-mod relabel;
-mod sequence;
 mod session;
 mod text;
 mod texts;

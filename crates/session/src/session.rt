@@ -1,18 +1,20 @@
 //! Sessions, and the statements that they run.
-ghost use Rattle.std.specs.Prelude.{◌≡◌, ℕ, List, Option, IsTrue, IfOk, OnOk, true, is_ok};
+ghost use Rattle.std.specs.Prelude.{◌≡◌, ℕ, List, Option, IsTrue, IfOk, OnOk, true, false, is_ok};
 ghost use Rattle.spec_reader.specs.Laws.{FormIsInForce, FormKeeps, FormIsSmall, FormHasSequences};
 ghost use Rattle.session.specs.Refusals.{IsTold};
-ghost use Rattle.session.specs.Effect.{State, Effect, Setting, first_state, answering, refusing, FormDoes, StatementDoes};
+ghost use Rattle.session.specs.Effect.{State, Effect, Setting, first_state, answering, refusing, structures_text, FormDoes, StatementDoes};
 ghost use Rattle.session.specs.Ending.{HasStepCause, Makes};
 ghost use Rattle.session.specs.Commands.{effect_of, CanBeTold};
 
 use crate::answer::{Answer, answer_form};
+use crate::members::{write_members, write_out};
 use crate::refusal::refusal_number;
 use crate::{Outcome, Refusal, SessionFault, TextForm, refusal_line};
 use comb_io::{Sink, SinkFault, write_all};
 use spec_syntax::{Bytes, Statement};
 use std::alloc::{AllocError, Global};
 use std::marker::Model;
+use struct_walk::Iter;
 
 /// What runs statements one after another, and keeps what they leave.
 ///
@@ -44,14 +46,31 @@ fn write_text<O: Sink>(text: &Bytes, quiet: bool, out: &mut O) -> Result<Outcome
     ensures makes { (line : ℕ) (state : State) (err : Option (List ℕ))
         → Makes (O.written out.old) (O.written out.new) err err (answering (record { is_quiet = quiet; line = line; state = state }) text.now) result }
 {
-    if quiet {
-        return Ok(Outcome::Done);
+    if !quiet {
+        write_out(text, out)?;
     }
-    match write_all(out, text.as_slice()) {
-        Ok(()) => Ok(Outcome::Done),
-        Err(SinkFault::Failed) => Err(SessionFault::Out),
-        Err(SinkFault::Memory) => Err(SessionFault::Memory),
+    Ok(Outcome::Done)
+}
+
+/// Writes the texts of a class's members to out, unless the statement ends with a colon.
+fn write_listing<O: Sink>(
+    alloc: Global,
+    texts: TextForm,
+    members: &mut Iter,
+    quiet: bool,
+    out: &mut O,
+) -> Result<Outcome, SessionFault>
+    requires texts { texts ≡ TextForm.Maple }
+    requires whole { members.old.is_broken ≡ false }
+    ensures cause { (err : ℕ) → HasStepCause (O.faults out.old) (O.faults out.new) err err result }
+    ensures makes { (line : ℕ) (state : State) (err : Option (List ℕ))
+        → Makes (O.written out.old) (O.written out.new) err err
+        (answering (record { is_quiet = quiet; line = line; state = state }) (structures_text members.old.counts.checked.rules members.old.rest)) result }
+{
+    if !quiet {
+        write_members(alloc, texts, members, out)?;
     }
+    Ok(Outcome::Done)
 }
 
 /// Writes the line that tells a refusal.
@@ -78,20 +97,23 @@ fn write_refusal<E: Sink>(
 /// Writes what a statement comes to.
 fn write_answer<O: Sink, E: Sink>(
     alloc: Global,
-    answer: &Answer,
+    texts: TextForm,
+    answer: &mut Answer,
     quiet: bool,
     line: u32,
     out: &mut O,
     err: &mut E,
 ) -> Result<Outcome, SessionFault>
-    requires { CanBeTold answer.now }
+    requires texts { texts ≡ TextForm.Maple }
+    requires told { CanBeTold answer.old }
     ensures cause { HasStepCause (O.faults out.old) (O.faults out.new) (E.faults err.old) (E.faults err.new) result }
     ensures makes { (state : State) → Makes (O.written out.old) (O.written out.new) (E.written err.old) (E.written err.new)
-        (effect_of answer.now (record { is_quiet = quiet; line = line; state = state })) result }
+        (effect_of answer.old (record { is_quiet = quiet; line = line; state = state })) result }
 {
     match answer {
         Answer::Nothing => Ok(Outcome::Done),
         Answer::Text(text) => write_text(text, quiet, out),
+        Answer::Members(members) => write_listing(alloc, texts, members, quiet, out),
         Answer::Refused(refusal) => write_refusal(alloc, line, refusal, err),
     }
 }
@@ -114,8 +136,8 @@ fn run<O: Sink, E: Sink>(
     ensures makes { (state : State) (whole : Effect) → StatementDoes statement.now line texts state whole
         → Makes (O.written out.old) (O.written out.new) (E.written err.old) (E.written err.new) whole result }
 {
-    let answer = answer_form(alloc, texts, &statement.form)?;
-    write_answer(alloc, &answer, statement.quiet, line, out, err)
+    let mut answer = answer_form(alloc, statement.quiet, &statement.form)?;
+    write_answer(alloc, texts, &mut answer, statement.quiet, line, out, err)
 }
 
 impl Session {

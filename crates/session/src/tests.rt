@@ -219,3 +219,14 @@ fn a_failed_write_is_told(rt: HostRuntime) -> Result<(), Fail> {
     assert_eq!(rt; out.bytes(), b"[Prod(Z".as_slice());
     Ok(())
 }
+
+#[test]
+fn a_short_list_is_one_write(rt: HostRuntime) -> Result<(), Fail> {
+    let alloc = rt.alloc();
+    let mut session = Session::new(alloc)?;
+    let mut out = MemSink::new(alloc, 65_536, &[1])?;
+    let mut err = MemSink::new(alloc, 7, &[])?;
+    let ended = step_read(alloc, &mut session, LIST, &mut out, &mut err)?;
+    assert_eq!(rt; ended, Outcome::Done);
+    Ok(())
+}

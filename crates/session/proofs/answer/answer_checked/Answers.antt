@@ -1,11 +1,12 @@
-use Rattle.std.proofs.Common.{◌≡◌, ◌≤◌, List, ℕ, Some, length, sym, ap, subst, ◌∙◌}
+use Rattle.std.proofs.Common.{◌≡◌, ◌≤◌, List, ℕ, Some, IfOk, length, sym, ap, subst, ◌∙◌}
+use Rattle.std.proofs.lemmas.Result.{IfOk-weaker}
 use Rattle.spec_syntax.specs.Rules.{Rules, rule_name, symbol as symbol_of}
 use Rattle.well_founded.specs.Checked.{grammar}
 use Rattle.size_counts.specs.CountedView.{Counts, FaultSays}
 use Rattle.size_counts.proofs.PlaceWithin.{place_within}
 use Rattle.session.specs.declared.refusal.Refusal.TheVariants as refusal
 use Rattle.session.specs.Effect.{answering, refusing}
-use Rattle.session.specs.Commands.{text_of}
+use Rattle.session.specs.Commands.{text_of, effect_of}
 use Rattle.session.proofs.EffectsExist.{numbers_fit, number_too_large}
 use Rattle.session.proofs.answer.answer_checked.Goals as goal
 
@@ -23,21 +24,22 @@ name-requires-clause-high c =
     rw c.in-Err-TooLarge.field-0-is
     (subst (λ (rules : Rules). place.rule ≤ length rules) c.requires.rules (place_within (grammar checked) c.in-Some.sym c.args.size place says).1)
 
-pub returns-in_ok-text-in-Ok-clause-does : goal.returns-in_ok-text-in-Ok-clause-does
-returns-in_ok-text-in-Ok-clause-does c =
-    λ symbol setting whole starts numbers.
+pub returns-in-Ok-clause-does : goal.returns-in-Ok-clause-does
+returns-in-Ok-clause-does c =
+    λ symbol setting whole quiet starts numbers.
     let checked = c.args.grammar in
     let sym_is = sym c.in-Some.ensures.value in
     let found : symbol_of checked.rules symbol ≡ Some c.in-Some.sym = sym starts ∙ sym_is in
     let P : Counts → Type 0 =
-    λ counts. symbol_of counts.checked.rules symbol ≡ Some c.in-Some.sym → c.in_ok-text-in-Ok.text ≡ text_of c.args.command (grammar counts.checked) symbol counts.size in
-    let told = subst P c.in-Ok.ensures.counted (c.in_ok-text-in-Ok.ensures symbol) found in
-    numbers_fit (text_of c.args.command) (grammar checked) symbol c.args.size setting whole c.in-Some.sym found (c.in-Ok.ensures.fit c.in-Some.sym sym_is) numbers
-    ∙ ap (answering setting) (sym told)
+    λ counts. symbol_of counts.checked.rules symbol ≡ Some c.in-Some.sym
+    → IfOk c.answer_counted.result (λ answer. effect_of answer setting ≡ answering setting (text_of c.args.command (grammar counts.checked) symbol counts.size)) in
+    let does = subst P c.in-Ok.ensures.counted (c.answer_counted.ensures.does symbol setting quiet) found in
+    IfOk-weaker c.answer_counted.result _ _
+    (λ answer is. numbers_fit (text_of c.args.command) (grammar checked) symbol c.args.size setting whole c.in-Some.sym found (c.in-Ok.ensures.fit c.in-Some.sym sym_is) numbers ∙ sym is) does
 
 pub returns-in_ok-name-in-Err-TooLarge-clause-does : goal.returns-in_ok-name-in-Err-TooLarge-clause-does
 returns-in_ok-name-in-Err-TooLarge-clause-does c =
-    λ symbol setting whole starts numbers.
+    λ symbol setting whole quiet starts numbers.
     let checked = c.args.grammar in
     let place = c.in-Err-TooLarge.place in
     let sym_is = sym c.in-Some.ensures.value in

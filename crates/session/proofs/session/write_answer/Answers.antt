@@ -16,6 +16,17 @@ returns-in-Text-clause-makes g c =
     let Q : Answer → Type 0 = λ answer. Makes (g.O.Sink.written c.args.out.now) (g.O.Sink.written c.write_text.new.out) err err (effect_of answer setting) c.write_text.result in
     subst Q (sym c.in-Text.is) (c.write_text.ensures.makes c.args.line state err)
 
+pub returns-in-Members-clause-cause : goal.returns-in-Members-clause-cause
+returns-in-Members-clause-cause g c = c.write_listing.ensures.cause (g.E.Sink.faults c.args.err.now)
+
+pub returns-in-Members-clause-makes : goal.returns-in-Members-clause-makes
+returns-in-Members-clause-makes g c =
+    λ state.
+    let err = g.E.Sink.written c.args.err.now in
+    let setting : Setting = record { is_quiet = c.args.quiet; line = c.args.line; state = state } in
+    let Q : Answer → Type 0 = λ answer. Makes (g.O.Sink.written c.args.out.now) (g.O.Sink.written c.write_listing.new.out) err err (effect_of answer setting) c.write_listing.result in
+    subst Q (sym c.in-Members.is) (c.write_listing.ensures.makes c.args.line state err)
+
 pub returns-in-Refused-clause-cause : goal.returns-in-Refused-clause-cause
 returns-in-Refused-clause-cause g c = c.write_refusal.ensures.cause (g.O.Sink.faults c.args.out.now)
 

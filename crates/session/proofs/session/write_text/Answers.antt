@@ -1,21 +1,23 @@
-use Rattle.session.specs.declared.fault.SessionFault.TheVariants as fault
-use Rattle.session.proofs.MakesLemmas.{Makes-wrote, Makes-wrote-part}
+use Rattle.std.proofs.Common.{◌≡◌, true, false, refl}
+use Rattle.session.specs.Effect.{Setting, answering}
+use Rattle.session.proofs.MakesLemmas.{Makes-wrote, Makes-wrote-part, cause_passed, makes_passed}
 use Rattle.session.proofs.session.write_text.Goals as goal
 
-pub returns-in-Ok-clause-makes : goal.returns-in-Ok-clause-makes
-returns-in-Ok-clause-makes g c =
-    λ line state err.
-    Makes-wrote (g.O.Sink.written c.args.out.now) (g.O.Sink.written c.write_all.new.sink) err (record { is_quiet = c.args.quiet; line = line; state = state })
-    c.args.text.now c.as_slice.result.now c.as_slice.ensures c.if-quiet.false c.in-Ok.ensures.whole
+pub returns-in_err-write_out-clause-cause : goal.returns-in_err-write_out-clause-cause
+returns-in_err-write_out-clause-cause g c =
+    λ err. cause_passed c.from_residual.result c.in_err-write_out.field-0.0 _ _ err err c.from_residual.ensures.1 (c.in_err-write_out.ensures.cause err)
 
-pub returns-in-Err-Failed-clause-makes : goal.returns-in-Err-Failed-clause-makes
-returns-in-Err-Failed-clause-makes g c =
+pub returns-in_err-write_out-clause-makes : goal.returns-in_err-write_out-clause-makes
+returns-in_err-write_out-clause-makes g c =
     λ line state err.
-    Makes-wrote-part (g.O.Sink.written c.args.out.now) (g.O.Sink.written c.write_all.new.sink) err (record { is_quiet = c.args.quiet; line = line; state = state })
-    c.args.text.now c.as_slice.result.now c.as_slice.ensures c.if-quiet.false fault.Out c.in-Err-Failed.ensures.part
+    let setting : Setting = record { is_quiet = c.args.quiet; line = line; state = state } in
+    makes_passed (g.O.Sink.written c.args.out.now) (g.O.Sink.written c.write_out.new.out) err err (answering setting c.args.text.now) c.from_residual.result c.in_err-write_out.field-0.0
+    c.from_residual.ensures.1
+    (Makes-wrote-part (g.O.Sink.written c.args.out.now) (g.O.Sink.written c.write_out.new.out) err setting c.args.text.now c.args.text.now refl c.if-not-quiet.true
+    c.in_err-write_out.field-0.0 c.in_err-write_out.ensures.part)
 
-pub returns-in-Err-Memory-clause-makes : goal.returns-in-Err-Memory-clause-makes
-returns-in-Err-Memory-clause-makes g c =
+pub returns-in_ok-write_out-clause-makes : goal.returns-in_ok-write_out-clause-makes
+returns-in_ok-write_out-clause-makes g c =
     λ line state err.
-    Makes-wrote-part (g.O.Sink.written c.args.out.now) (g.O.Sink.written c.write_all.new.sink) err (record { is_quiet = c.args.quiet; line = line; state = state })
-    c.args.text.now c.as_slice.result.now c.as_slice.ensures c.if-quiet.false fault.Memory c.in-Err-Memory.ensures.part
+    Makes-wrote (g.O.Sink.written c.args.out.now) (g.O.Sink.written c.write_out.new.out) err (record { is_quiet = c.args.quiet; line = line; state = state })
+    c.args.text.now c.args.text.now refl c.if-not-quiet.true c.in_ok-write_out.ensures.whole

@@ -1,7 +1,0 @@
-use Rattle.std.proofs.Common.{◌≡◌, map, []}
-use Rattle.std.specs.List.{range_with_len}
-use Rattle.session.specs.Columns.{only_at}
-use Rattle.session.proofs.components.list_no_components.Given as goal
-
-abbrev pub invariant-loop-size : goal.invariant-loop-size
-invariant-loop-size l = l.column ≡ map (only_at [] 0) (range_with_len 0 l.size)
