@@ -267,6 +267,47 @@ fn failing_writes(rt: HostRuntime) -> Result<(), Fail> {
     Ok(())
 }
 
+/// Sees that a list that is too long to be written whole begins so, and ends at the second write, which fails.
+fn sees_beginning(
+    rt: &impl Abort,
+    alloc: Global,
+    script: &[u8],
+    beginning: &[u8],
+) -> Result<(), Fail> {
+    let mut out = MemSink::new(alloc, 65_536, &[1])?;
+    let mut err = MemSink::new(alloc, 65_536, &[])?;
+    let status = outcome_of(alloc, &mut SureSource::new(script), &mut out, &mut err);
+    assert_eq!(rt; status, Status::Output);
+    sees_part(rt, beginning, out.bytes());
+    assert_eq!(rt; err.bytes(), b"".as_slice());
+    Ok(())
+}
+
+#[test]
+fn vast_lists_end_at_a_failed_write(rt: HostRuntime) -> Result<(), Fail> {
+    let alloc = rt.alloc();
+    // 2^60 structures
+    let words = b"allstructs([F, {F = Sequence(Union(a, b)), a = Atom, b = Atom}], size = 60);";
+    sees_beginning(&rt, alloc, words, b"[Sequence(a, a, a, a,")?;
+    // 30! structures, of which each has its labels in an order of its own
+    let left = b"allstructs([T, {T = Union(Z, Prod(T, Z))}, labelled], size = 30);";
+    sees_beginning(&rt, alloc, left, LEFT)?;
+    // no sizes but 1 and 29 in each component
+    let gap =
+        b"allstructs([S, {S = Prod(A, A), A = Union(Z, Sequence(Z, card = 29))}, labelled], size = 30);";
+    sees_beginning(
+        &rt,
+        alloc,
+        gap,
+        b"[Prod(Z[1], Sequence(Z[2], Z[3], Z[4], Z[5],",
+    )?;
+    Ok(())
+}
+
+/// The first structure of 30 labels that is nested to the left.
+const LEFT: &[u8] =
+    b"[Prod(Prod(Prod(Prod(Prod(Prod(Prod(Prod(Prod(Prod(Prod(Prod(Prod(Prod(Prod(Prod(Prod(Prod(Prod(Prod(Prod(Prod(Prod(Prod(Prod(Prod(Prod(Prod(Prod(Z[1], Z[2]), Z[3]), Z[4]),";
+
 #[test]
 fn words_out_of_form(rt: HostRuntime) -> Result<(), Fail> {
     let alloc = rt.alloc();
