@@ -1,9 +1,10 @@
 //! Walks over small classes, and the first steps over large ones.
-ghost use Rattle.std.specs.Prelude.{◌≡◌, [], ◌∷◌, ◌≤◌, IfOk, IfSome, IsTrue, IsSome, length};
+ghost use Rattle.std.specs.Prelude.{◌≡◌, false, [], ◌∷◌, ◌≤◌, IfOk, IfSome, IsTrue, IsSome, length};
 ghost use Rattle.spec_syntax.specs.Rules.{is_spec, are_sequences, symbol};
 ghost use Rattle.spec_syntax.specs.Expression.{Atom as AtomOf, Name as NameOf, Union as UnionOf, Prod as ProdOf, Many as ManyOf, more_expressions, no_expressions};
 ghost use Rattle.spec_syntax.specs.declared.expr.Kind.TheVariants.{Sequence as SequenceOf};
 ghost use Rattle.struct_walk.specs.Stands.{IsAsked};
+ghost use Rattle.struct_walk.specs.WalkerView.{HasRest, walker_is_broken};
 
 use crate::{Iter, Walk, Walker};
 use size_counts::Counted;
@@ -189,6 +190,26 @@ fn words(alloc: Global) -> Result<Option<Counted>, AllocError> {
     Ok(counted(alloc, &spec, &name, Universe::Unlabelled, 60))
 }
 
+/// The labels of the next two structures of a walker, where there are two.
+fn next_two(
+    alloc: Global,
+    counted: &Counted,
+    walker: &mut Walker,
+) -> Result<Option<(Labels, Labels)>, AllocError>
+    requires whole { walker_is_broken walker.old ≡ false }
+    requires has_rest { HasRest counted.now walker.old }
+{
+    let Some(one) = walker.next(alloc, counted)? else {
+        return Ok(None);
+    };
+    let one = labels(alloc, &one)?;
+    let Some(other) = walker.next(alloc, counted)? else {
+        return Ok(None);
+    };
+    let other = labels(alloc, &other)?;
+    Ok(Some((one, other)))
+}
+
 /// The labels of the first two structures of the node on the supply, where there are two.
 fn first_two(
     alloc: Global,
@@ -202,13 +223,18 @@ fn first_two(
         return Ok(None);
     }
     let mut walker = Walker::first(alloc, counted, node, supply)?;
-    let Some(one) = walker.next(alloc, counted)? else {
-        return Ok(None);
-    };
-    let Some(other) = walker.next(alloc, counted)? else {
-        return Ok(None);
-    };
-    Ok(Some((labels(alloc, &one)?, labels(alloc, &other)?)))
+    next_two(alloc, counted, &mut walker)
+}
+
+/// Whether the walk gives four members: one with the labels 1 and 2, another one, one with them turned, and another one.
+fn gives_four(alloc: Global, iter: &mut Iter) -> Result<bool, AllocError> {
+    Ok(
+        is_next(alloc, iter, &[1, 2])?
+            && passed(alloc, iter, 1)? == 1
+            && is_next(alloc, iter, &[2, 1])?
+            && passed(alloc, iter, 9)? == 1
+            && is_over(alloc, iter)?,
+    )
 }
 
 #[test]
@@ -217,13 +243,15 @@ fn to_the_end(rt: HostRuntime) -> Result<(), Fail> {
     let list = prod_of(alloc, atom(), sequence_of(alloc, atom(), ANY)?)?;
     let lists = sequence_of(alloc, list, ANY)?;
     let mut iter = members(alloc, lists, Universe::Labelled, 2)?.expect(&rt, "a class");
-    assert!(rt; is_next(alloc, &mut iter, &[1, 2])?);
-    assert_eq!(rt; passed(alloc, &mut iter, 1)?, 1);
-    assert!(rt; is_next(alloc, &mut iter, &[2, 1])?);
-    assert_eq!(rt; passed(alloc, &mut iter, 9)?, 1);
+    assert!(rt; gives_four(alloc, &mut iter)?);
+    Ok(())
+}
+
+#[test]
+fn no_member(rt: HostRuntime) -> Result<(), Fail> {
+    let alloc = rt.alloc();
+    let mut iter = members(alloc, atom(), Universe::Labelled, 2)?.expect(&rt, "a class");
     assert!(rt; is_over(alloc, &mut iter)?);
-    let mut none = members(alloc, atom(), Universe::Labelled, 2)?.expect(&rt, "a class");
-    assert!(rt; is_over(alloc, &mut none)?);
     Ok(())
 }
 
