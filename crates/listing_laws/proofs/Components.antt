@@ -16,7 +16,7 @@ use Rattle.struct_model.specs.Membership.{is_of, are_of_each}
 use Rattle.lists.specs.Enumeration.{Enumerated}
 use Rattle.struct_model.specs.Listing.{Before, IsOne, Lists}
 use Rattle.splits.specs.Splits.{Split, splits}
-use Rattle.listing_laws.specs.Lister.{product, each_before, by_splits, list_no_components}
+use Rattle.listing_laws.specs.Lister.{product, each_going_on, by_splits, list_no_components}
 use Rattle.splits.specs.Laws.{PartBefore}
 use Rattle.lists.proofs.Enumerated as enumerated
 use Rattle.lists.proofs.Ascending.{Rises, rises_ascending, ascending_both}
@@ -44,86 +44,93 @@ pub same_components : (f : Form5) (ss ts : List Structure) → Tup f (parts_of s
 unfolding parts_in
 same_components f ss ts h = sym (list_back ss) ∙ ap (λ s. part_list (parts_in s)) h ∙ list_back ts
 
+-- ---- a first component before the others
+
+-- the structure passes the test and has these labels
+abbrev pub OneWith : (Structure → Bool) → List ℕ → Structure → Type 0
+OneWith passes u s = IsTrue (passes s) × (key s ≡ u)
+
+-- what passes as a whole is a first structure that passes before others that pass behind it
+pub record IsBuilt (first_passes : Structure → Bool) (others_pass : Structure → Structures → Bool) (all_pass : Structures → Bool) : Type 0 where
+  pub joined : (s : Structure) (ps : Structures) → first_passes s ≡ true → others_pass s ps ≡ true → all_pass (more_parts s ps) ≡ true
+  pub cut : (s : Structure) (ps : Structures) → all_pass (more_parts s ps) ≡ true → (first_passes s ≡ true) × (others_pass s ps ≡ true)
+
+module _ (first_passes : Structure → Bool) (others_pass : Structure → Structures → Bool) where
+  -- a first component on the part, and the others on the rest
+  abbrev pub IsAt : Split → List Structure → Type 0
+  IsAt split ss = (first : Structure) × (others : List Structure) × OneWith first_passes split.part first × AreWith (others_pass first) split.rest others × (ss ≡ first ∷ others)
+
+  abbrev IsAfter : List ℕ → Structure → List Structure → Type 0
+  IsAfter u first ss = (others : List Structure) × AreWith (others_pass first) u others × (ss ≡ first ∷ others)
+
+  pub each_going_on_are : (split : Split) (firsts : List Structure) (others : Structure → List (List Structure))
+      → Enumerated Before (OneWith first_passes split.part) firsts
+      → ((first : Structure) → OneWith first_passes split.part first → Enumerated PartsBefore (AreWith (others_pass first) split.rest) (others first))
+      → Enumerated PartsBefore (IsAt split) (each_going_on firsts others)
+  each_going_on_are split firsts others f o =
+      enumerated.made Before (OneWith first_passes split.part) PartsBefore (IsAfter split.rest) (IsAt split) (λ first. map (λ rest. first ∷ rest) (others first)) firsts f
+      (λ first p. enumerated.mapped PartsBefore (AreWith (others_pass first) split.rest) PartsBefore (IsAfter split.rest first) (λ rest. first ∷ rest) (others first) (o first p)
+      (λ ss ts p q before. before_by_others first ss ts before) (λ ss p. (ss, p, refl)) (λ ss p. p))
+      (λ s t p q before ss ts after_s after_t.
+      subst (λ v. PartsBefore v ts) (sym after_s.2) (subst (λ v. PartsBefore (s ∷ after_s.0) v) (sym after_t.2) (before_by_first s t after_s.0 after_t.0 before)))
+      (λ first ss p after. (first, after.0, p, after.1, after.2))
+      (λ ss at. (at.0, at.2, (at.1, at.3, at.4)))
+
+  pub lesser_part : (a b : Split) → PartBefore a b → (ss ts : List Structure) → IsAt a ss → IsAt b ts → PartsBefore ss ts
+  lesser_part a b before ss ts at_a at_b =
+      let keys : key_order at_a.0 at_b.0 ≡ Less = (λ i. slice_cmp nat_cmp (at_a.2.1 i) (at_b.2.1 i)) ∙ before in
+      let first : PartsBefore (at_a.0 ∷ at_a.1) (at_b.0 ∷ at_b.1) = before_by_first at_a.0 at_b.0 at_a.1 at_b.1 (before_by_key at_a.0 at_b.0 keys) in
+      subst (λ v. PartsBefore v ts) (sym at_a.4) (subst (λ v. PartsBefore (at_a.0 ∷ at_a.1) v) (sym at_b.4) first)
+
+module _ (first_passes : Structure → Bool) (others_pass : Structure → Structures → Bool) (all_pass : Structures → Bool) (built : IsBuilt first_passes others_pass all_pass) where
+  to_all : (u : List ℕ) (split : Split) (ss : List Structure) → MakesUp u split → IsAt first_passes others_pass split ss → AreWith all_pass u ss
+  to_all u split ss s at =
+      let both : AreWith all_pass u (at.0 ∷ at.1) = (
+        built.joined at.0 (parts_of at.1) at.2.0 at.3.0,
+        sym (ascending_both (labels at.0) (labels_of_parts (parts_of at.1))) ∙ (λ i. ascending (at.2.1 i ++ at.3.1 i)) ∙ s.whole,
+      ) in
+      subst (AreWith all_pass u) (sym at.4) both
+
+  from_all : (u : List ℕ) (s : Structure) (ss : List Structure) → AreWith all_pass u (s ∷ ss) → (split : Split) × MakesUp u split × IsAt first_passes others_pass split (s ∷ ss)
+  from_all u s ss p =
+      let both = built.cut s (parts_of ss) p.0 in (
+        record { part = key s; rest = ascending (labels_of_parts (parts_of ss)) },
+        record {
+          part = rises_ascending (labels s);
+          rest = rises_ascending (labels_of_parts (parts_of ss));
+          whole = ascending_both (labels s) (labels_of_parts (parts_of ss)) ∙ p.1;
+        },
+        (s, ss, (both.0, refl), (both.1, refl), refl),
+      )
+
+  -- these are the splits on which there is a first component, in the order of the parts
+  pub record AreChosen (u : List ℕ) (Chosen : Split → Type 0) (chosen : List Split) : Type 0 where
+    pub listed : Enumerated PartBefore Chosen chosen
+    pub makes : (split : Split) → Chosen split → MakesUp u split
+    pub each : (split : Split) (s : Structure) → MakesUp u split → OneWith first_passes split.part s → Chosen split
+
+  -- the lists of components, split by split, where the first ones, and the others behind each of them, are listed on each split
+  pub by_chosen_are : (u : List ℕ) (Chosen : Split → Type 0) (chosen : List Split) (first : List ℕ → List Structure) (others : Structure → List ℕ → List (List Structure))
+      → AreChosen u Chosen chosen
+      → (AreWith all_pass u [] → ⊥)
+      → ((split : Split) → Chosen split → Enumerated Before (OneWith first_passes split.part) (first split.part))
+      → ((split : Split) → Chosen split → (s : Structure) → OneWith first_passes split.part s → Enumerated PartsBefore (AreWith (others_pass s) split.rest) (others s split.rest))
+      → Enumerated PartsBefore (AreWith all_pass u) (flat_map (λ split. each_going_on (first split.part) (λ s. others s split.rest)) chosen)
+  by_chosen_are u Chosen chosen first others are some f o =
+      enumerated.made PartBefore Chosen PartsBefore (IsAt first_passes others_pass) (AreWith all_pass u) (λ split. each_going_on (first split.part) (λ s. others s split.rest)) chosen
+      are.listed
+      (λ split c. each_going_on_are first_passes others_pass split (first split.part) (λ s. others s split.rest) (f split c) (o split c))
+      (λ a b s t before. lesser_part first_passes others_pass a b before)
+      (λ split ss c at. to_all u split ss (are.makes split c) at)
+      found
+    where
+      found : (ss : List Structure) → AreWith all_pass u ss → (split : Split) × Chosen split × IsAt first_passes others_pass split ss
+      found [] p = absurd (some p)
+      found (s ∷ ss) p =
+          let at = from_all u s ss p in
+          (at.0, are.each at.0 at.2.0 at.1 at.2.2, at.2)
+
 module _ (g : Grammar) where
-  -- ---- a first component before the others
-
-  -- what passes as a whole is a structure of the expression before others that pass
-  pub record IsBuilt (e : Expression) (others_pass all_pass : Structures → Bool) : Type 0 where
-    pub joined : (s : Structure) (ps : Structures) → is_of g e s ≡ true → others_pass ps ≡ true → all_pass (more_parts s ps) ≡ true
-    pub cut : (s : Structure) (ps : Structures) → all_pass (more_parts s ps) ≡ true → (is_of g e s ≡ true) × (others_pass ps ≡ true)
-
-  module _ (e : Expression) (others_pass all_pass : Structures → Bool) (built : IsBuilt e others_pass all_pass) where
-    -- a first component on the part, and the others on the rest
-    abbrev IsAt : Split → List Structure → Type 0
-    IsAt split ss = (first : Structure) × (others : List Structure) × IsOne g e split.part first × AreWith others_pass split.rest others × (ss ≡ first ∷ others)
-
-    abbrev IsAfter : List ℕ → Structure → List Structure → Type 0
-    IsAfter u first ss = (others : List Structure) × AreWith others_pass u others × (ss ≡ first ∷ others)
-
-    each_before_are : (split : Split) (firsts : List Structure) (others : List (List Structure))
-        → Lists g e split.part firsts → Enumerated PartsBefore (AreWith others_pass split.rest) others → Enumerated PartsBefore (IsAt split) (each_before firsts others)
-    each_before_are split firsts others f o =
-        enumerated.made Before (IsOne g e split.part) PartsBefore (IsAfter split.rest) (IsAt split) (λ first. map (λ rest. first ∷ rest) others) firsts f
-        (λ first p. enumerated.mapped PartsBefore (AreWith others_pass split.rest) PartsBefore (IsAfter split.rest first) (λ rest. first ∷ rest) others o
-        (λ ss ts p q before. before_by_others first ss ts before) (λ ss p. (ss, p, refl)) (λ ss p. p))
-        (λ s t p q before ss ts after_s after_t.
-        subst (λ v. PartsBefore v ts) (sym after_s.2) (subst (λ v. PartsBefore (s ∷ after_s.0) v) (sym after_t.2) (before_by_first s t after_s.0 after_t.0 before)))
-        (λ first ss p after. (first, after.0, p, after.1, after.2))
-        (λ ss at. (at.0, at.2, (at.1, at.3, at.4)))
-
-    lesser_part : (a b : Split) → PartBefore a b → (ss ts : List Structure) → IsAt a ss → IsAt b ts → PartsBefore ss ts
-    lesser_part a b before ss ts at_a at_b =
-        let keys : key_order at_a.0 at_b.0 ≡ Less = (λ i. slice_cmp nat_cmp (at_a.2.1 i) (at_b.2.1 i)) ∙ before in
-        let first : PartsBefore (at_a.0 ∷ at_a.1) (at_b.0 ∷ at_b.1) = before_by_first at_a.0 at_b.0 at_a.1 at_b.1 (before_by_key at_a.0 at_b.0 keys) in
-        subst (λ v. PartsBefore v ts) (sym at_a.4) (subst (λ v. PartsBefore (at_a.0 ∷ at_a.1) v) (sym at_b.4) first)
-
-    to_all : (u : List ℕ) (split : Split) (ss : List Structure) → MakesUp u split → IsAt split ss → AreWith all_pass u ss
-    to_all u split ss s at =
-        let both : AreWith all_pass u (at.0 ∷ at.1) = (
-          built.joined at.0 (parts_of at.1) at.2.0 at.3.0,
-          sym (ascending_both (labels at.0) (labels_of_parts (parts_of at.1))) ∙ (λ i. ascending (at.2.1 i ++ at.3.1 i)) ∙ s.whole,
-        ) in
-        subst (AreWith all_pass u) (sym at.4) both
-
-    from_all : (u : List ℕ) (s : Structure) (ss : List Structure) → AreWith all_pass u (s ∷ ss) → (split : Split) × MakesUp u split × IsAt split (s ∷ ss)
-    from_all u s ss p =
-        let both = built.cut s (parts_of ss) p.0 in (
-          record { part = key s; rest = ascending (labels_of_parts (parts_of ss)) },
-          record {
-            part = rises_ascending (labels s);
-            rest = rises_ascending (labels_of_parts (parts_of ss));
-            whole = ascending_both (labels s) (labels_of_parts (parts_of ss)) ∙ p.1;
-          },
-          (s, ss, (both.0, refl), (both.1, refl), refl),
-        )
-
-    -- these are the splits on which there is a first component, in the order of the parts
-    pub record AreChosen (u : List ℕ) (Chosen : Split → Type 0) (chosen : List Split) : Type 0 where
-      pub listed : Enumerated PartBefore Chosen chosen
-      pub makes : (split : Split) → Chosen split → MakesUp u split
-      pub each : (split : Split) (s : Structure) → MakesUp u split → IsOne g e split.part s → Chosen split
-
-    -- the lists of components, split by split, where the first ones and the others are listed on each split
-    pub by_chosen_are : (u : List ℕ) (Chosen : Split → Type 0) (chosen : List Split) (first : List ℕ → List Structure) (others : List ℕ → List (List Structure))
-        → AreChosen u Chosen chosen
-        → (AreWith all_pass u [] → ⊥)
-        → ((split : Split) → Chosen split → Lists g e split.part (first split.part))
-        → ((split : Split) → Chosen split → Enumerated PartsBefore (AreWith others_pass split.rest) (others split.rest))
-        → Enumerated PartsBefore (AreWith all_pass u) (flat_map (λ split. each_before (first split.part) (others split.rest)) chosen)
-    by_chosen_are u Chosen chosen first others are some f o =
-        enumerated.made PartBefore Chosen PartsBefore IsAt (AreWith all_pass u) (λ split. each_before (first split.part) (others split.rest)) chosen
-        are.listed
-        (λ split c. each_before_are split (first split.part) (others split.rest) (f split c) (o split c))
-        (λ a b s t before. lesser_part a b before)
-        (λ split ss c at. to_all u split ss (are.makes split c) at)
-        found
-      where
-        found : (ss : List Structure) → AreWith all_pass u ss → (split : Split) × Chosen split × IsAt split ss
-        found [] p = absurd (some p)
-        found (s ∷ ss) p =
-            let at = from_all u s ss p in
-            (at.0, are.each at.0 at.2.0 at.1 at.2.2, at.2)
-
   -- ---- components put together
 
   -- the structures of the expression are the lists that pass, put together in this form
@@ -196,7 +203,7 @@ module _ (g : Grammar) where
       never [] p = cc
       never (s ∷ ss) p = true≢false (sym p.0)
 
-  one_of_each : (e : Expression) (es : Expressions) → IsBuilt e (are_of_each g es) (are_of_each g (more_expressions e es))
+  one_of_each : (e : Expression) (es : Expressions) → IsBuilt (is_of g e) (λ s. are_of_each g es) (are_of_each g (more_expressions e es))
   one_of_each e es = record { joined = λ s ps first others. and_from _ _ first others; cut = λ s ps all. and_parts _ _ all }
 
   -- the lists of components of a Prod, where the first ones and the others are listed on each split
@@ -205,9 +212,9 @@ module _ (g : Grammar) where
       → ((split : Split) → MakesUp u split → ListsComponents es split.rest (others split.rest))
       → ListsComponents (more_expressions e es) u (by_splits first others u)
   by_splits_are e es u first others rises f o =
-      by_chosen_are e (are_of_each g es) (are_of_each g (more_expressions e es)) (one_of_each e es) u (MakesUp u) (splits u) first others
+      by_chosen_are (is_of g e) (λ s. are_of_each g es) (are_of_each g (more_expressions e es)) (one_of_each e es) u (MakesUp u) (splits u) first (λ s. others)
       (record { listed = splits_are u rises; makes = λ split s. s; each = λ split one s is. s })
-      (λ p. true≢false (sym p.0)) f o
+      (λ p. true≢false (sym p.0)) f (λ split s first one. o split s)
 
   prod_together : (es : Expressions) → IsTogether form.Prod (expr.Prod es) (are_of_each g es)
   prod_together es = record { passes = λ ps. refl; is_list = prod_list }

@@ -3,7 +3,6 @@ use Rattle.std.proofs.Common.{◌≡◌, ℕ, zero, suc, ◌<◌, ◌≤◌, tru
 use Rattle.std.specs.Cmp.Lexicographic.{bytes_decides}
 use Rattle.std.proofs.lemmas.Bool.{and_parts, and_from}
 use Rattle.spec_syntax.specs.Expression as expr
-use Rattle.spec_syntax.specs.Rules.{are_sequences}
 use Rattle.spec_syntax.specs.Grammar.{Grammar}
 use Rattle.lists.specs.Ascending.{ascending}
 use Rattle.struct_model.specs.Structure.{Structure, Eps, Atom, Named, Alt, Tup, Structures, no_parts, more_parts, nodes, nodes_of_parts, labels, size, key}
@@ -17,7 +16,7 @@ use Rattle.well_founded.specs.Names.{undefined_name}
 use Rattle.well_founded.specs.Sets.{reading_sets}
 use Rattle.well_founded.specs.Inside.{IsInside, IsAmong}
 use Rattle.well_founded.specs.Sizes.{IsOf, IsLeast, no_least}
-use Rattle.well_founded.specs.WellFounded.{HoldsItself, HoldsCycle, HasNoStructure, HoldsNull, OfNone, IsEachProductive, IsCulprit, Checks}
+use Rattle.well_founded.specs.WellFounded.{HoldsItself, HoldsCycle, HasNoStructure, HoldsNull, OfNone, IsEachProductive, IsWellFounded, IsCulprit, Checks}
 use Rattle.well_founded.proofs.EndlessLaws.{grows}
 use Rattle.well_founded.proofs.CheckLaws.{first_in, first_not_none}
 use Rattle.well_founded.proofs.CheckExists.{some_check}
@@ -25,10 +24,9 @@ use Rattle.well_founded.proofs.RankLaws.{ranks_exist}
 use Rattle.listing_laws.specs.Endless.{Differ, HasEndlesslyMany}
 use Rattle.listing_laws.specs.Laws.{IsListing, EndlessByMembers}
 use Rattle.lists.proofs.Distinct.{no_longer}
-use Rattle.lists.proofs.Ascending.{ascending_same}
-use Rattle.listing_laws.proofs.Relabel.{relabel}
-use Rattle.listing_laws.proofs.Sequences.{name_unread}
-use Rattle.struct_model.proofs.SupplyLaws.{supply_is, supply_rises, supply_allowed, supply_size}
+use Rattle.listing_laws.proofs.ReadTwice.{no_nulls_read, well_founded_read}
+use Rattle.listing_laws.proofs.Relabel.{with_supply}
+use Rattle.struct_model.proofs.SupplyLaws.{supply_is}
 use Rattle.listing_laws.proofs.WellFoundedListed.{name_lists}
 
 mutual
@@ -48,25 +46,25 @@ mutual
   among_fewer t (more_parts s ps) (inr (inl h)) = omega (arith, inside_fewer t s h)
   among_fewer t (more_parts s ps) (inr (inr h)) = omega (arith, among_fewer t ps h)
 
-module _ (g : Grammar) (sequences : are_sequences g.rules ≡ true) where
+module _ (g : Grammar) where
   member_from : (name : List ℕ) (n : ℕ) (s : Structure) → IsOf g (expr.Name name) s → key s ≡ supply g.universe n → is_member (reading_sets g) name n s ≡ true
   member_from name n s of same = and_from _ _ of ((bytes_decides (key s) (supply g.universe n)).1 same)
 
-  from_member : (name : List ℕ) (n : ℕ) (s : Structure) → is_member (reading_sets g) name n s ≡ true → IsOne g (expr.Name name) (supply g.universe n) s
+  from_member : (name : List ℕ) (n : ℕ) (s : Structure) → is_member (reading_sets g) name n s ≡ true → IsOne (reading_sets g) (expr.Name name) (supply g.universe n) s
   from_member name n s member =
       let both : IsOf g (expr.Name name) s × (same_labels (key s) (supply g.universe n) ≡ true) = and_parts _ _ member in
-      (name_unread g name s sequences both.0, (bytes_decides (key s) (supply g.universe n)).0 both.1)
+      (both.0, (bytes_decides (key s) (supply g.universe n)).0 both.1)
 
   -- a class with a listing of the size has no more different members than there are in it
-  pub listed_ends : (name : List ℕ) (n : ℕ) → IsListing g (expr.Name name) → HasEndlesslyMany g name n → ⊥
+  pub listed_ends : (name : List ℕ) (n : ℕ) → IsListing (reading_sets g) (expr.Name name) → HasEndlesslyMany g name n → ⊥
   listed_ends name n is_listing many =
       let u = supply g.universe n in
-      let ss = many (suc (length (listing g (expr.Name name) u))) in
+      let members = listing (reading_sets g) (expr.Name name) u in
+      let ss = many (suc (length members)) in
       omega (
         arith,
         ss.1,
-        no_longer ss.0 (listing g (expr.Name name) u) ss.2 (λ s within.
-            (is_listing.lists u (supply_is g.universe n)).complete s (from_member name n s (ss.3 s within))),
+        no_longer ss.0 members ss.2 (λ s within. (is_listing.lists u (supply_is g.universe n)).complete s (from_member name n s (ss.3 s within))),
       )
 
   -- ---- one more, again and again
@@ -130,10 +128,8 @@ module _ (g : Grammar) (sequences : are_sequences g.rules ≡ true) where
   pub holds_many : (name : List ℕ) → OfNone (HoldsCycle g) g.rules → OfNone (HoldsNull g) g.rules → HoldsItself g name → (t : Structure) → IsOf g (expr.Name name) t
       → HasEndlesslyMany g name (size t)
   holds_many name cycles nulls holds t of =
-      let u = supply g.universe (size t) in
-      let first = relabel g sequences t (expr.Name name) u refl of (supply_allowed g.universe u (supply_is g.universe (size t))) (supply_size g.universe (size t)) in
-      endlessly name (size t) (λ s of_s. grows g name s cycles nulls holds of_s)
-      first.0 first.1 (ap ascending first.2 ∙ ascending_same u (supply_rises g.universe u (supply_is g.universe (size t))))
+      let first = with_supply (reading_sets g) (no_nulls_read g nulls) name t of in
+      endlessly name (size t) (λ s of_s. grows g name s cycles nulls holds of_s) first.0 first.1 first.2
 
   -- and so it has of its least size, where that is told
   pub least_many : (name : List ℕ) (n : ℕ) → OfNone (HoldsCycle g) g.rules → OfNone (HoldsNull g) g.rules → HoldsItself g name → IsLeast g (expr.Name name) n → n < no_least
@@ -143,31 +139,36 @@ module _ (g : Grammar) (sequences : are_sequences g.rules ≡ true) where
 
 -- ---- the law
 
+-- where a grammar is well founded, no class has endlessly many members of one size
+none_endless : (g : Grammar) (x : List ℕ) (m : ℕ) → IsWellFounded g → HasEndlesslyMany g x m → ⊥
+none_endless g x m founded many =
+    let read = well_founded_read g founded in
+    let ranks = ranks_exist (reading_sets g) read in
+    listed_ends g x m (name_lists (reading_sets g) read.no_null_elements ranks.0 ranks.1 x) many
+
 -- what the check says, where no other refusal holds and some class has endlessly many members, is that a rule is endless
-said_endless : (g : Grammar) (start : Option (List ℕ)) (x : List ℕ) (m : ℕ) (said : Option Refused) → are_sequences g.rules ≡ true → Checks g start said
+said_endless : (g : Grammar) (start : Option (List ℕ)) (x : List ℕ) (m : ℕ) (said : Option Refused) → Checks g start said
     → undefined_name g.rules start ≡ None → OfNone (HoldsCycle g) g.rules → IsEachProductive g → OfNone (HoldsNull g) g.rules → HasEndlesslyMany g x m
     → (name : List ℕ) × (n : ℕ) × IsCulprit g start (Endless name n)
-said_endless g start x m None sequences checks undefined cycles productive nulls many =
-    let ranks = ranks_exist g checks.0 in
-    absurd (listed_ends g sequences x m (name_lists g nulls ranks.0 ranks.1 x) many)
-said_endless g start x m (Some (Undefined name)) sequences checks undefined cycles productive nulls many =
+said_endless g start x m None checks undefined cycles productive nulls many = absurd (none_endless g x m checks.0 many)
+said_endless g start x m (Some (Undefined name)) checks undefined cycles productive nulls many =
     absurd (let both : None ≡ Some name = sym undefined ∙ checks in cc)
-said_endless g start x m (Some (CycleUnlabelled name)) sequences checks undefined cycles productive nulls many =
+said_endless g start x m (Some (CycleUnlabelled name)) checks undefined cycles productive nulls many =
     absurd (first_not_none (HoldsCycle g) g.rules name checks.1 cycles)
-said_endless g start x m (Some (Unproductive name)) sequences checks undefined cycles productive nulls many =
+said_endless g start x m (Some (Unproductive name)) checks undefined cycles productive nulls many =
     absurd (checks.2.holds (productive name checks.2.right (first_in (HasNoStructure g) g.rules name checks.2)))
-said_endless g start x m (Some (NullElement name)) sequences checks undefined cycles productive nulls many =
+said_endless g start x m (Some (NullElement name)) checks undefined cycles productive nulls many =
     absurd (first_not_none (HoldsNull g) g.rules name checks.3 nulls)
-said_endless g start x m (Some (Endless name n)) sequences checks undefined cycles productive nulls many = (name, n, checks)
-said_endless g start x m (Some Memory) sequences checks undefined cycles productive nulls many = absurd checks
+said_endless g start x m (Some (Endless name n)) checks undefined cycles productive nulls many = (name, n, checks)
+said_endless g start x m (Some Memory) checks undefined cycles productive nulls many = absurd checks
 
 pub endless_by_members : EndlessByMembers
 endless_by_members = record {
-  many = λ g start name n spec sequences culprit.
+  many = λ g start name n culprit.
       let holds = culprit.4.holds in
-      (name, size holds.inner, holds_many g sequences name culprit.1 culprit.3 holds holds.inner holds.is_inner);
-  told = λ g start name n spec sequences culprit small. least_many g sequences name n culprit.1 culprit.3 culprit.4.holds culprit.5 small;
-  endless = λ g start x m spec sequences undefined cycles productive nulls many.
+      (name, size holds.inner, holds_many g name culprit.1 culprit.3 holds holds.inner holds.is_inner);
+  told = λ g start name n culprit small. least_many g name n culprit.1 culprit.3 culprit.4.holds culprit.5 small;
+  endless = λ g start x m undefined cycles productive nulls many.
       let check = some_check g start in
-      said_endless g start x m check.0 sequences check.1 undefined cycles productive nulls many;
+      said_endless g start x m check.0 check.1 undefined cycles productive nulls many;
 }

@@ -43,9 +43,23 @@ prod_is (expr.Prod es) h = (es, refl)
 prod_is (expr.Many k element card) h = absurd (no_container k told.Prod refl h)
 prod_is e h = absurd (cc)
 
+same_kind : (j k : Kind) → container j ≡ container k → j ≡ k
+same_kind kind.Sequence kind.Sequence h = refl
+same_kind kind.Set kind.Set h = refl
+same_kind kind.PowerSet kind.PowerSet h = refl
+same_kind kind.Cycle kind.Cycle h = refl
+same_kind j k h = absurd (cc)
+
+pub many_is : (k : Kind) (e : Expression) → kind_of e ≡ container k → (element : Expression) × (card : Card) × (e ≡ expr.Many k element card)
+many_is k (expr.Many j element card) h = (element, card, ap (λ (own : Kind). expr.Many own element card) (same_kind j k h))
+many_is k expr.Epsilon h = absurd (no_container k told.Epsilon refl (sym h))
+many_is k expr.Atom h = absurd (no_container k told.Atom refl (sym h))
+many_is k (expr.Name name) h = absurd (no_container k told.Rule refl (sym h))
+many_is k (expr.Union es) h = absurd (no_container k told.Union refl (sym h))
+many_is k (expr.Prod es) h = absurd (no_container k told.Prod refl (sym h))
+
 pub sequence_is : (e : Expression) → kind_of e ≡ told.Sequence → (element : Expression) × (card : Card) × (e ≡ expr.Many kind.Sequence element card)
-sequence_is (expr.Many kind.Sequence element card) h = (element, card, refl)
-sequence_is e h = absurd (cc)
+sequence_is e h = many_is kind.Sequence e h
 
 -- where no container but a Sequence may stand, there is no other kind
 pub no_other_kind : (e : Expression) → is_sequence_at_most e ≡ true → (kind_of e ≡ told.Epsilon → ⊥) → (kind_of e ≡ told.Atom → ⊥) → (kind_of e ≡ told.Rule → ⊥)

@@ -3,7 +3,6 @@ pub mod OrderFacts
 pub mod OrderKept
 pub mod Changed
 pub mod SetsRead
-pub mod Sequences
 pub mod Arguments
 pub mod Components
 pub mod Repeated
@@ -19,6 +18,8 @@ pub mod Ranked
 pub mod WellFoundedListed
 pub mod Listed
 pub mod Recursion
+mod ReadTwice
+mod Climbing
 pub mod Relabel
 pub mod EndlessMembers
 pub mod Joined
@@ -26,3 +27,19 @@ pub mod Numbers
 pub mod KindLemmas
 pub mod NodeLemmas
 pub mod NodeRanks
+mod Ranges
+mod SortedParts
+mod UnlabelledSets
+mod SameMany
+pub mod ByComponents
+pub mod LeastFirst
+pub mod LeastListed
+pub mod LeastSets
+pub mod LeastCycles
+mod SizedElements
+pub mod LeastNumbers
+pub mod ContainersRecur
+mod SortedComponents
+mod LeastNodes
+mod Followers
+mod SortedNodes

@@ -9,6 +9,7 @@ use Rattle.lists.specs.Enumeration.{IsIn}
 use Rattle.lists.proofs.Places.{drop_at}
 use Rattle.lists.proofs.Positions.{slice_some}
 use Rattle.spec_syntax.specs.declared.expr.Card.{Card}
+use Rattle.spec_syntax.specs.declared.expr.Kind.{Kind}
 use Rattle.spec_syntax.specs.declared.expr.Kind.TheVariants as kind
 use Rattle.spec_syntax.specs.Expression as expr
 use Rattle.spec_syntax.specs.Expression.{Expression, Expressions, no_expressions, more_expressions, expression_list, expressions_of}
@@ -23,14 +24,14 @@ use Rattle.struct_model.specs.Bounded.{listing, number}
 use Rattle.struct_model.proofs.SupplyLaws.{supply_is}
 use Rattle.well_founded.specs.declared.node.NodeKind.{NodeKind}
 use Rattle.well_founded.specs.declared.node.NodeKind.TheVariants as told
-use Rattle.well_founded.specs.NodeKinds.{kind_of}
+use Rattle.well_founded.specs.NodeKinds.{kind_of, container}
 use Rattle.well_founded.specs.Checked.{Checked, IsChecked, grammar}
 use Rattle.well_founded.specs.Sizes.{IsLeast}
 use Rattle.listing_laws.specs.Lister.{list_epsilon, list_atom, list_no_components, list_empty, alternatives, by_splits, by_parts, after_one, admits_some, product, sequence, named}
 use Rattle.listing_laws.specs.Recursion.{components_on, repeated_on}
 use Rattle.listing_laws.specs.Numbers.{joined, exactly, one_at, admitted}
 use Rattle.listing_laws.specs.NodeListing.{HasKind, IsElement, listing_on, listing_of_node, rule_on, later_on, lists_on, least_at, number_of_node, number_from, number_of_lists, NodesAreListed, NodesAreCounted}
-use Rattle.listing_laws.proofs.KindLemmas.{epsilon_is, atom_is, rule_is, union_is, prod_is, sequence_is}
+use Rattle.listing_laws.proofs.KindLemmas.{epsilon_is, atom_is, rule_is, union_is, prod_is, many_is}
 use Rattle.listing_laws.proofs.Numbers.{numbers_recur}
 use Rattle.listing_laws.proofs.Recursion.{listings_recur}
 
@@ -81,7 +82,7 @@ module _ (checked : Checked) where
   pub lists_are : (element : ℕ) (e : Expression) (card : Card) (u : List ℕ) → node_at checked.rules element ≡ Some e → lists_on checked element card u ≡ repeated_on g e card u
   lists_are element e card u at = ap (λ o. option_map_or (λ f. repeated_on g f card u) o []) at
 
-  number_is : (node : ℕ) (e : Expression) (n : ℕ) → node_at checked.rules node ≡ Some e → number_of_node checked node n ≡ number g e n
+  pub number_is : (node : ℕ) (e : Expression) (n : ℕ) → node_at checked.rules node ≡ Some e → number_of_node checked node n ≡ number g e n
   number_is node e n at = ap length (listing_is node e (supply checked.universe n) at)
 
   -- ---- the nodes of each kind
@@ -130,26 +131,36 @@ module _ (checked : Checked) where
       let is = prod_is at.0 at.2 in
       record { components = is.0; at = at.1 ∙ ap Some is.1 }
 
-  -- the node of a Sequence and that of its element
-  pub record SequenceNode (node element : ℕ) : Type 0 where
+  -- the node of a container and that of its element
+  pub record ContainerNode (k : Kind) (node element : ℕ) : Type 0 where
     pub e : Expression
     pub card : Card
-    pub at : node_at checked.rules node ≡ Some (expr.Many kind.Sequence e card)
+    pub at : node_at checked.rules node ≡ Some (expr.Many k e card)
     pub inside : node_at checked.rules element ≡ Some e
 
-  pub sequence_node : (node element : ℕ) → HasKind checked node told.Sequence → slice_get (children_at checked.rules node) 0 ≡ Some element → SequenceNode node element
-  sequence_node node element h child =
-      let at = kind_at node told.Sequence h in
-      let is = sequence_is at.0 at.2 in
-      let there : node_at checked.rules node ≡ Some (expr.Many kind.Sequence is.0 is.1) = at.1 ∙ ap Some is.2 in
-      let own : slice_get (children_of node (expr.Many kind.Sequence is.0 is.1)) 0 ≡ Some element =
-      ap (λ ms. slice_get ms 0) (sym (children_at_is checked.rules node (expr.Many kind.Sequence is.0 is.1) there)) ∙ child in
-      record { e = is.0; card = is.1; at = there; inside = child_node checked.rules node (expr.Many kind.Sequence is.0 is.1) 0 element there own }
+  pub container_node : (k : Kind) (node element : ℕ) → HasKind checked node (container k) → slice_get (children_at checked.rules node) 0 ≡ Some element → ContainerNode k node element
+  container_node k node element h child =
+      let at = kind_at node (container k) h in
+      let is = many_is k at.0 at.2 in
+      let there : node_at checked.rules node ≡ Some (expr.Many k is.0 is.1) = at.1 ∙ ap Some is.2 in
+      let own : slice_get (children_of node (expr.Many k is.0 is.1)) 0 ≡ Some element =
+      ap (λ ms. slice_get ms 0) (sym (children_at_is checked.rules node (expr.Many k is.0 is.1) there)) ∙ child in
+      record { e = is.0; card = is.1; at = there; inside = child_node checked.rules node (expr.Many k is.0 is.1) 0 element there own }
 
-  pub bound_is : (node element : ℕ) (s : SequenceNode node element) (card : Card) → card_at checked.rules node ≡ Some card → s.card ≡ card
-  bound_is node element s card h =
+  pub container_bound : (k : Kind) (node element : ℕ) (s : ContainerNode k node element) (card : Card) → card_at checked.rules node ≡ Some card → s.card ≡ card
+  container_bound k node element s card h =
       let own : card_at checked.rules node ≡ Some s.card = ap (option_and_then card_of) s.at in
       let same : Some s.card ≡ Some card = sym own ∙ h in cc
+
+  -- the node of a Sequence
+  abbrev pub SequenceNode : ℕ → ℕ → Type 0
+  SequenceNode node element = ContainerNode kind.Sequence node element
+
+  pub sequence_node : (node element : ℕ) → HasKind checked node told.Sequence → slice_get (children_at checked.rules node) 0 ≡ Some element → SequenceNode node element
+  sequence_node node element h child = container_node kind.Sequence node element h child
+
+  pub bound_is : (node element : ℕ) (s : SequenceNode node element) (card : Card) → card_at checked.rules node ≡ Some card → s.card ≡ card
+  bound_is node element s card h = container_bound kind.Sequence node element s card h
 
   -- ---- the components of a Prod
 

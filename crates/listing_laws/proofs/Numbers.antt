@@ -77,7 +77,7 @@ alternatives_length k (ss ∷ each) =
       sum_more (length ss) (map length each),
     )
 
-before_length : (firsts : List Structure) (others : List (List Structure)) → length (each_before firsts others) ≡ length firsts * length others
+pub before_length : (firsts : List Structure) (others : List (List Structure)) → length (each_before firsts others) ≡ length firsts * length others
 before_length [] others = none (length others)
   where
     none : (n : ℕ) → 0 ≡ 0 * n
@@ -88,6 +88,19 @@ before_length (first ∷ firsts) others =
   where
     one_more : (k n : ℕ) → n + k * n ≡ suc k * n
     one_more k n = grind arith
+
+-- where nothing is listed on no label, a part without a label gives nothing
+pub all_parts : (first : List ℕ → List Structure) (others : List ℕ → List (List Structure)) (u : List ℕ) → ((v : List ℕ) → length v ≡ 0 → first v ≡ [])
+    → by_parts 1 (length u) first others u ≡ by_splits first others u
+all_parts first others u none = sym (left_out (λ (split : Split). each_before (first split.part) (others split.rest)) (has_length 1 (length u)) (splits u) nothing)
+  where
+    shorter : (n high : ℕ) → n ≤ high → (nat_le 1 n && nat_le n high) ≡ false → n ≡ 0
+    shorter n high h left = grind (arith, nat_tests)
+
+    nothing : (split : Split) → IsIn split (splits u) → has_length 1 (length u) split ≡ false → each_before (first split.part) (others split.rest) ≡ []
+    nothing split within left =
+        let total : length split.part + length split.rest ≡ length u = split_length u split within in
+        ap (λ (firsts : List Structure). each_before firsts (others split.rest)) (none split.part (shorter (length split.part) (length u) (omega arith) left))
 
 -- where the listings on a supply have lengths by its size alone, the lists of components have the number of pairs
 splits_length : (universe : Universe) (first : List ℕ → List Structure) (others : List ℕ → List (List Structure)) (f h : ℕ → ℕ) (n : ℕ)
@@ -106,6 +119,20 @@ splits_length universe first others f h n of_first of_others =
         = split_supplies universe (supply universe n) (supply_is universe n) split
         ((splits_are (supply universe n) (supply_rises universe (supply universe n) (supply_is universe n))).sound split there) in
         before_length (first split.part) (others split.rest) ∙ (λ i. of_first split.part both.0 i * of_others split.rest both.1 i)
+
+-- ---- bounds of so many components
+
+pub one_less : (c : ℕ) → after_one (exactly (suc c)) ≡ exactly c
+one_less c = ap exactly (less c)
+  where
+    less : (c : ℕ) → suc c - 1 ≡ c
+    less c = omega arith
+
+pub admits_suc : (c : ℕ) → nat_le 1 (suc c) ≡ true
+admits_suc c = grind (arith, nat_tests)
+
+pub admits_none : (c : ℕ) → (nat_le (suc c) 0 && nat_le 0 (suc c)) ≡ false
+admits_none c = grind (arith, nat_tests)
 
 -- ---- words
 
@@ -135,13 +162,13 @@ module _ (g : Grammar) where
       ∙ length-map (list_no_components u) product ∙ no_components_length u ∙ ap (one_at 0) (supply_size g.universe n)
 
   -- on each supply there are as many as on the first labels
-  number_on : (e : Expression) (u : List ℕ) → is_supply g.universe u ≡ true → IsListing g e → length (listing g e u) ≡ number g e (length u)
+  pub number_on : (e : Expression) (u : List ℕ) → is_supply g.universe u ≡ true → IsListing g e → length (listing g e u) ≡ number g e (length u)
   number_on e u supplied is_listing = ap length (alike g e u supplied is_listing) ∙ length-map (listing g e (supply g.universe (length u))) (relabelled u)
 
   below_least : (e : Expression) (least n : ℕ) → IsLeast g e least → n < least → number g e n ≡ 0
   below_least e least n is_least less = ap length (none_below g e least (supply g.universe n) is_least (subst (λ (k : ℕ). k < least) (sym (supply_size g.universe n)) less))
 
-  none_of_no_size : (e : Expression) (u : List ℕ) → IsNeverEmpty g e → length u ≡ 0 → listing g e u ≡ []
+  pub none_of_no_size : (e : Expression) (u : List ℕ) → IsNeverEmpty g e → length u ≡ 0 → listing g e u ≡ []
   none_of_no_size e u full none = is_empty (listing g e u) (λ s there. full s (listing_sound g e u s there).0 (listed_size g e u s there ∙ none))
 
 module _ (g : Grammar) (spec : IsTrue (is_spec g.rules)) (founded : IsWellFounded g) where
@@ -193,7 +220,7 @@ module _ (g : Grammar) (spec : IsTrue (is_spec g.rules)) (founded : IsWellFounde
     repeated_number : (other : Card) (u : List ℕ) → is_supply g.universe u ≡ true → length (repeated_on g e other u) ≡ with_bound other (length u)
     repeated_number other u supplied =
         sym (repeated_length other u supplied)
-        ∙ number_on g (expr.Many kind.Sequence e other) u supplied (well_founded_is_listed.bounds g kind.Sequence e card other spec founded there)
+        ∙ number_on g (expr.Many kind.Sequence e other) u supplied (well_founded_is_listed.containers g kind.Sequence kind.Sequence e card other spec founded there)
 
     on_no_label : (other : Card) → with_bound other 0 ≡ (if admits other 0 then 1 else 0)
     on_no_label other =
@@ -215,26 +242,13 @@ module _ (g : Grammar) (spec : IsTrue (is_spec g.rules)) (founded : IsWellFounde
         by_some other n
         ∙ ap (λ (b : Bool). length (if b then by_parts 1 (length (supply g.universe (suc n))) (listing g e) (repeated_on g e (after_one other)) (supply g.universe (suc n)) else [])) none
 
-    -- a part without a label gives nothing
-    all_parts : (others : List ℕ → List (List Structure)) (u : List ℕ) → by_parts 1 (length u) (listing g e) others u ≡ by_splits (listing g e) others u
-    all_parts others u =
-        sym (left_out (λ (split : Split). each_before (listing g e split.part) (others split.rest)) (has_length 1 (length u)) (splits u) nothing)
-      where
-        shorter : (n high : ℕ) → n ≤ high → (nat_le 1 n && nat_le n high) ≡ false → n ≡ 0
-        shorter n high h left = grind (arith, nat_tests)
-
-        nothing : (split : Split) → IsIn split (splits u) → has_length 1 (length u) split ≡ false → each_before (listing g e split.part) (others split.rest) ≡ []
-        nothing split within left =
-            let total : length split.part + length split.rest ≡ length u = split_length u split within in
-            ap (λ (firsts : List Structure). each_before firsts (others split.rest))
-            (none_of_no_size g e split.part (element_full g kind.Sequence e card founded.no_null_elements there) (shorter (length split.part) (length u) (omega arith) left))
-
     with_some : (other : Card) (n : ℕ) → admits_some other ≡ true → with_bound other (suc n) ≡ joined g.universe (number g e) (with_bound (after_one other)) (suc n)
     with_some other n some =
         let u : List ℕ = supply g.universe (suc n) in
         by_some other n
         ∙ ap (λ (b : Bool). length (if b then by_parts 1 (length u) (listing g e) (repeated_on g e (after_one other)) u else [])) some
-        ∙ ap length (all_parts (repeated_on g e (after_one other)) u)
+        ∙ ap length (all_parts (listing g e) (repeated_on g e (after_one other)) u
+        (λ v none. none_of_no_size g e v (element_full g kind.Sequence e card founded.no_null_elements there) none))
         ∙ splits_length g.universe (listing g e) (repeated_on g e (after_one other)) (number g e) (with_bound (after_one other)) (suc n)
         (λ v supplied. number_on g e v supplied is_listing) (repeated_number (after_one other))
 
@@ -252,18 +266,6 @@ module _ (g : Grammar) (spec : IsTrue (is_spec g.rules)) (founded : IsWellFounde
       where
         nothing : (k : ℕ) → 0 * k ≡ 0
         nothing k = omega arith
-
-    one_less : (c : ℕ) → after_one (exactly (suc c)) ≡ exactly c
-    one_less c = ap exactly (less c)
-      where
-        less : (c : ℕ) → suc c - 1 ≡ c
-        less c = omega arith
-
-    admits_suc : (c : ℕ) → nat_le 1 (suc c) ≡ true
-    admits_suc c = grind (arith, nat_tests)
-
-    admits_none : (c : ℕ) → (nat_le (suc c) 0 && nat_le 0 (suc c)) ≡ false
-    admits_none c = grind (arith, nat_tests)
 
     lists : (c n : ℕ) → with_exactly (suc c) n ≡ joined g.universe (number g e) (with_exactly c) n
     lists c zero =

@@ -252,13 +252,13 @@ module _ (g : Grammar) (full : OfNone (HoldsNull g) g.rules) (ranks : List ℕ) 
         record { rank = low.rank; is_node = low.is_node; low = omega (arith, falls, high) }
 
     -- there are at most as many components as labels
-    few_components : (kind : Kind) (e : Expression) (card other : Card) (f : Form5) (ps : Structures) → IsIn (expr.Many kind e card) (all_nodes g.rules)
+    few_components : (container kind : Kind) (e : Expression) (card other : Card) (f : Form5) (ps : Structures) → IsIn (expr.Many container e card) (all_nodes g.rules)
         → is_of g (expr.Many kind e other) (Tup f ps) ≡ true → Small (labels_of_parts ps) → part_count ps ≤ b.width
-    few_components kind e card other f ps there of small =
+    few_components container kind e card other f ps there of small =
         omega (
           arith,
           small.1,
-          few_parts ps (λ t at. element_full g kind e card full there t (component_is g e ps t (container_is g kind e other f ps of).are at)),
+          few_parts ps (λ t at. element_full g container e card full there t (component_is g e ps t (container_is g kind e other f ps of).are at)),
         )
 
     mutual
@@ -298,7 +298,7 @@ module _ (g : Grammar) (full : OfNone (HoldsNull g) g.rules) (ranks : List ℕ) 
           subst (λ (n : ℕ). IsIn (Tup f ps) (up_to_height b n)) (sym less.1)
           (list_within b less.0 f ps (in_part_lists b.width (up_to_height b less.0) ps
           (elements_within ps e less.0 (elements_low r kind e card f ps less.0 node of less.2) (container_is g kind e card f ps of).are small)
-          (few_components kind e card card f ps (in_nodes g.rules node.number (expr.Many kind e card) node.there) of small)))
+          (few_components kind kind e card card f ps (in_nodes g.rules node.number (expr.Many kind e card) node.there) of small)))
       within (Tup f ps) e r h node of small high = absurd (true≢false (sym of))
 
       parts_within : (ps : Structures) (es : Expressions) (h : ℕ) → AreLow h es ps → are_of_each g es ps ≡ true → Small (labels_of_parts ps) → EachIn (up_to_height b h) ps
@@ -369,14 +369,14 @@ module _ (g : Grammar) (full : OfNone (HoldsNull g) g.rules) (ranks : List ℕ) 
         )))
     suffix_within s earlier later n h there of small high = absurd (true≢false (sym of))
 
-    -- a structure of a node's container with another bound
-    pub bound_within : (s : Structure) (kind : Kind) (e : Expression) (card other : Card) (n h : ℕ) → node_at g.rules n ≡ Some (expr.Many kind e card)
+    -- a structure of a container of whatever kind, with any bound, over the element of a node's container
+    pub bound_within : (s : Structure) (container kind : Kind) (e : Expression) (card other : Card) (n h : ℕ) → node_at g.rules n ≡ Some (expr.Many container e card)
         → is_of g (expr.Many kind e other) s ≡ true → Small (labels s) → size s * total + total ≤ h → IsIn s (up_to_height b (suc h))
-    bound_within (Tup f ps) kind e card other n h there of small high =
-        let has = rank_of n (expr.Many kind e card) there in
-        let low : Below has.0 (expr.Many kind e card) 0 e = below_is has.0 0 (expr.Many kind e card) e (record { number = n; there = there; has_rank = has.1 }) refl in
+    bound_within (Tup f ps) container kind e card other n h there of small high =
+        let has = rank_of n (expr.Many container e card) there in
+        let low : Below has.0 (expr.Many container e card) 0 e = below_is has.0 0 (expr.Many container e card) e (record { number = n; there = there; has_rank = has.1 }) refl in
         list_within b h f ps (in_part_lists b.width (up_to_height b h) ps
         (elements_within ps e h (λ t at. part_low low.rank e t (length (labels_of_parts ps)) h low.is_node low.small (in_size ps t at) high)
         (container_is g kind e other f ps of).are small)
-        (few_components kind e card other f ps (in_nodes g.rules n (expr.Many kind e card) there) of small))
-    bound_within s kind e card other n h there of small high = absurd (true≢false (sym of ∙ no_list g kind e other s refl))
+        (few_components container kind e card other f ps (in_nodes g.rules n (expr.Many container e card) there) of small))
+    bound_within s container kind e card other n h there of small high = absurd (true≢false (sym of ∙ no_list g kind e other s refl))

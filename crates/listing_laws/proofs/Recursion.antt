@@ -1,5 +1,5 @@
 -- The listing of an expression by the listings of those inside it.
-use Rattle.std.proofs.Common.{◌≡◌, ℕ, zero, suc, ◌+◌, ◌<◌, ◌≤◌, true, List, [], ◌∷◌, ◌++◌, map, length, refl, sym, ap, ◌∙◌, subst, arith, true≢false, Some, None}
+use Rattle.std.proofs.Common.{◌≡◌, ℕ, zero, suc, ◌<◌, ◌≤◌, true, List, [], ◌∷◌, ◌++◌, map, length, refl, sym, ap, ◌∙◌, subst, arith, true≢false, Some, None}
 use Rattle.std.specs.Prelude.{if◌then◌else◌}
 use Rattle.std.proofs.lemmas.Bool.{and_parts, eqb-true}
 use Rattle.std.proofs.lemmas.List.{append_assoc}
@@ -11,7 +11,7 @@ use Rattle.spec_syntax.specs.Rules.{symbol, right_side, all_nodes}
 use Rattle.spec_syntax.specs.Grammar.{Grammar}
 use Rattle.struct_model.specs.declared.tree.Form5.{Form5}
 use Rattle.struct_model.specs.declared.tree.Form5.TheVariants as form
-use Rattle.struct_model.specs.Structure.{Structure, Eps, Atom, Tup, more_parts, parts_of, labels}
+use Rattle.struct_model.specs.Structure.{Structure, Eps, Atom, Tup, more_parts, parts_of}
 use Rattle.struct_model.specs.Membership.{supply, is_supply}
 use Rattle.lists.specs.Enumeration.{IsIn}
 use Rattle.struct_model.specs.Listing.{IsOne}
@@ -86,7 +86,7 @@ module _ (g : Grammar) where
 -- ---- Sequences
 
 -- without a part that has a label, fewer labels remain
-fewer_left : (u : List ℕ) (split : Split) → IsIn split (parts 1 (length u) u) → length split.rest < length u
+pub fewer_left : (u : List ℕ) (split : Split) → IsIn split (parts 1 (length u) u) → length split.rest < length u
 fewer_left u split there =
     let found = from_filter (has_length 1 (length u)) split (splits u) there in
     omega (arith, split_length u split found.0, some_in (length u) split found.1)
@@ -98,7 +98,7 @@ same_others first others also u same =
     (λ split there. ap (each_before (first split.part)) (same split.rest (fewer_left u split there)))
 
 -- how many components may come at most doesn't matter, where it is no less than the labels
-enough_repeated : (first : List ℕ → List Structure) (n m : ℕ) (card : Card) (u : List ℕ) → length u ≤ n → length u ≤ m → list_repeated first n card u ≡ list_repeated first m card u
+pub enough_repeated : (first : List ℕ → List Structure) (n m : ℕ) (card : Card) (u : List ℕ) → length u ≤ n → length u ≤ m → list_repeated first n card u ≡ list_repeated first m card u
 enough_repeated first n m card [] h k = refl
 enough_repeated first zero m card (label ∷ ls) h k = absurd (omega arith)
 enough_repeated first (suc n) zero card (label ∷ ls) h k = absurd (omega arith)
@@ -139,7 +139,7 @@ module _ (form : Form5) where
   same_lists sss others same = same_mapped together (same_components form) sss others same
 
   -- lists of components are alike where they are when put together
-  alike_together : (u : List ℕ) (whole first : List Structure) (sss others : List (List Structure)) → whole ≡ map (relabelled u) first
+  pub alike_together : (u : List ℕ) (whole first : List Structure) (sss others : List (List Structure)) → whole ≡ map (relabelled u) first
       → whole ≡ map together sss → first ≡ map together others → sss ≡ map (map (relabelled u)) others
   alike_together u whole first sss others same is_whole is_first =
       same_lists sss (map (map (relabelled u)) others) (sym is_whole ∙ same ∙ ap (map (relabelled u)) is_first ∙ relabelled_together u others)
@@ -183,7 +183,7 @@ module _ (g : Grammar) (full : OfNone (HoldsNull g) g.rules) (ranks : List ℕ) 
   pub sequence_recurs : (e : Expression) (card other : Card) (u : List ℕ) → IsIn (expr.Many kind.Sequence e card) (all_nodes g.rules) → is_supply g.universe u ≡ true
       → listing g (expr.Many kind.Sequence e other) u ≡ map sequence (repeated_on g e other u)
   sequence_recurs e card other u there supplied =
-      sym ((bound_lists g full ranks ranked kind.Sequence e card other there).only u (map sequence (repeated_on g e other u)) supplied
+      sym ((bound_lists g full ranks ranked kind.Sequence kind.Sequence e card other there).only u (map sequence (repeated_on g e other u)) supplied
       (sequences_are g e other u (repeated_on g e other u) (repeated_lists e card other u there supplied)))
 
   pub components_alike : (earlier later : List Expression) (u : List ℕ) → IsIn (expr.Prod (expressions_of (earlier ++ later))) (all_nodes g.rules) → is_supply g.universe u ≡ true
@@ -201,7 +201,7 @@ module _ (g : Grammar) (full : OfNone (HoldsNull g) g.rules) (ranks : List ℕ) 
       let many : Expression = expr.Many kind.Sequence e other in
       let first : List ℕ = supply g.universe (length u) in
       alike_together form.Sequence u (listing g many u) (listing g many first) (repeated_on g e other u) (repeated_on g e other first)
-      (alike g many u supplied (bound_lists g full ranks ranked kind.Sequence e card other there)) (sequence_recurs e card other u there supplied)
+      (alike g many u supplied (bound_lists g full ranks ranked kind.Sequence kind.Sequence e card other there)) (sequence_recurs e card other u there supplied)
       (sequence_recurs e card other first there (supply_is g.universe (length u)))
 
 -- ---- the laws
@@ -211,7 +211,8 @@ well_founded_is_listed = record {
   names = λ g name spec founded. let found = ranks_exist g founded in name_lists g founded.no_null_elements found.0 found.1 name;
   nodes = λ g e spec founded there. let found = ranks_exist g founded in node_lists g founded.no_null_elements found.0 found.1 e there;
   suffixes = λ g earlier later spec founded there. let found = ranks_exist g founded in suffix_lists g founded.no_null_elements found.0 found.1 earlier later there;
-  bounds = λ g kind e card other spec founded there. let found = ranks_exist g founded in bound_lists g founded.no_null_elements found.0 found.1 kind e card other there;
+  containers = λ g container kind e card other spec founded there.
+      let found = ranks_exist g founded in bound_lists g founded.no_null_elements found.0 found.1 container kind e card other there;
 }
 
 pub listings_recur : ListingsRecur

@@ -66,7 +66,7 @@ parts_are low high u rises = enumerated.filtered PartBefore (MakesUp u) (has_len
 pub split_size : (u : List ℕ) (split : Split) → MakesUp u split → length split.part + length split.rest ≡ length u
 split_size u split s = sym (length-append split.part split.rest) ∙ sym (length-ascending (split.part ++ split.rest)) ∙ ap length s.whole
 
-has_some : (u : List ℕ) (split : Split) → MakesUp u split → 0 < length split.part → has_length 1 (length u) split ≡ true
+pub has_some : (u : List ℕ) (split : Split) → MakesUp u split → 0 < length split.part → has_length 1 (length u) split ≡ true
 has_some u split s some = grind (arith, nat_tests, split_size u split s)
 
 pub some_in : (high : ℕ) (split : Split) → has_length 1 high split ≡ true → 0 < length split.part
@@ -76,7 +76,7 @@ some_in high split h = by (length split.part) (and_parts (nat_le 1 (length split
     by n h = grind (arith, nat_tests)
 
 -- without the part there are fewer labels
-rest_is_less : (u : List ℕ) (split : Split) → MakesBetween 1 (length u) u split → length split.rest < length u
+pub rest_is_less : (u : List ℕ) (split : Split) → MakesBetween 1 (length u) u split → length split.rest < length u
 rest_is_less u split m = omega (arith, split_size u split m.0, some_in (length u) split m.1)
 
 -- ---- the components of a Sequence
@@ -89,7 +89,7 @@ module _ (g : Grammar) (e : Expression) where
   abbrev pub ListsRepeated : Card → List ℕ → List (List Structure) → Type 0
   ListsRepeated card u sss = Enumerated PartsBefore (AreWith (are_repeated card) u) sss
 
-  one_more : (card : Card) → admits_some card ≡ true → IsBuilt g e (are_repeated (after_one card)) (are_repeated card)
+  one_more : (card : Card) → admits_some card ≡ true → IsBuilt (is_of g e) (λ s. are_repeated (after_one card)) (are_repeated card)
   one_more card admitted = record {
     joined = λ s ps first others.
         let both = and_parts (admits (after_one card) (length (part_list ps))) (are_of g e ps) others in
@@ -118,7 +118,7 @@ module _ (g : Grammar) (e : Expression) where
   no_labels : (ls : List ℕ) → ascending ls ≡ [] → length ls ≡ 0
   no_labels ls h = sym (length-ascending ls) ∙ ap length h
 
-  some_label : (label : ℕ) (ls : List ℕ) → ascending [] ≡ label ∷ ls → ⊥
+  pub some_label : (label : ℕ) (ls : List ℕ) → ascending [] ≡ label ∷ ls → ⊥
   some_label label ls h = cc
 
   -- on a label or more there is nothing where the bound admits no component
@@ -133,13 +133,13 @@ module _ (g : Grammar) (e : Expression) where
           true≢false (sym (admits_one card (length (part_list (parts_of ss))) both.0) ∙ refused)
 
   module _ (never_empty : IsNeverEmpty g e) where
-    some_size : (u : List ℕ) (s : Structure) → IsOne g e u s → 0 < length u
+    pub some_size : (u : List ℕ) (s : Structure) → IsOne g e u s → 0 < length u
     some_size u s one = elim (cases_lt 0 (length u)) [
       | inl some ↦ some
       | inr none ↦ absurd (never_empty s one.0 (omega (arith, none, size_is u s one.1)))
     ]
 
-    none_only : (card : Card) (ss : List Structure) → AreWith (are_repeated card) [] ss → ss ≡ []
+    pub none_only : (card : Card) (ss : List Structure) → AreWith (are_repeated card) [] ss → ss ≡ []
     none_only card [] p = refl
     none_only card (s ∷ ss) p =
         let both = and_parts (admits card (suc (length (part_list (parts_of ss))))) (is_of g e s && are_of g e (parts_of ss)) p.0 in
@@ -167,13 +167,13 @@ module _ (g : Grammar) (e : Expression) where
         → ((split : Split) → MakesBetween 1 (length u) u split → ListsRepeated (after_one card) split.rest (others split.rest))
         → ListsRepeated card u (by_parts 1 (length u) first others u)
     some_repeated card u first others rises some admitted f o =
-        by_chosen_are g e (are_repeated (after_one card)) (are_repeated card) (one_more card admitted) u (MakesBetween 1 (length u) u) (parts 1 (length u) u) first others
+        by_chosen_are (is_of g e) (λ s. are_repeated (after_one card)) (are_repeated card) (one_more card admitted) u (MakesBetween 1 (length u) u) (parts 1 (length u) u) first (λ s. others)
         (record {
           listed = parts_are 1 (length u) u rises;
           makes = λ split m. m.0;
           each = λ split s makes one. (makes, has_some u split makes (some_size split.part s one));
         })
-        (none_there u some) f o
+        (none_there u some) f (λ split m s one. o split m)
       where
         none_there : (v : List ℕ) → 0 < length v → AreWith (are_repeated card) v [] → ⊥
         none_there [] more p = omega (arith, more)

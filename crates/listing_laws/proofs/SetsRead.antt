@@ -81,6 +81,18 @@ stands_in_sets (Tup form.Set ss) place t stands = (stands.0, subst (IsIn (in_set
 stands_in_sets (Tup form.PowerSet ss) place t stands = (stands.0, subst (IsIn (in_sets t)) (sym (list_in_sets ss)) (in_map in_sets t (part_list ss) stands.1))
 stands_in_sets (Tup form.Cycle ss) place t stands = (stands.0, subst (IsIn (in_sets t)) (sym (list_in_sets ss)) (in_map in_sets t (part_list ss) stands.1))
 
+-- ---- sorted lists
+
+not_after : (o : Ordering) → is_lt o ≡ true → not (is_gt o) ≡ true
+not_after Less h = refl
+not_after Equal h = refl
+not_after Greater h = absurd (true≢false (sym h))
+
+pub strictly_sorted : (ss : List Structure) → is_strictly_sorted ss ≡ true → is_sorted ss ≡ true
+strictly_sorted [] h = refl
+strictly_sorted (s ∷ []) h = refl
+strictly_sorted (s ∷ t ∷ ss) h = let both = and_parts _ _ h in and_from _ _ (not_after (order s t) both.0) (strictly_sorted (t ∷ ss) both.1)
+
 module _ (g : Grammar) where
   -- ---- the order
 
@@ -194,16 +206,6 @@ module _ (g : Grammar) where
 
   least_rotation_too : (e : Expression) (ss : Structures) → are_of g e ss ≡ true → is_least_rotation (part_list (all_in_sets ss)) ≡ is_least_rotation (part_list ss)
   least_rotation_too e ss h = ap is_least_rotation (list_in_sets ss) ∙ least_rotation_kept in_sets (IsOne e) (order_in_sets e) (part_list ss) (each_one ss e h)
-
-  not_after : (o : Ordering) → is_lt o ≡ true → not (is_gt o) ≡ true
-  not_after Less h = refl
-  not_after Equal h = refl
-  not_after Greater h = absurd (true≢false (sym h))
-
-  strictly_sorted : (ss : List Structure) → is_strictly_sorted ss ≡ true → is_sorted ss ≡ true
-  strictly_sorted [] h = refl
-  strictly_sorted (s ∷ []) h = refl
-  strictly_sorted (s ∷ t ∷ ss) h = let both = and_parts _ _ h in and_from _ _ (not_after (order s t) both.0) (strictly_sorted (t ∷ ss) both.1)
 
   mutual
     -- a structure of the expression is one of it where each PowerSet is read as Set

@@ -92,10 +92,11 @@ module _ (g : Grammar) (full : OfNone (HoldsNull g) g.rules) (ranks : List ℕ) 
       suffix_within g full ranks ranked (bounds g u) (most_arguments g.rules) (omega arith) (omega arith) (omega arith) (narrow g)
       s earlier later node.0 h node.1 p.0 (label_room u s p.1) high))
 
-  pub bound_lists : (kind : Kind) (e : Expression) (card other : Card) → IsIn (expr.Many kind e card) (all_nodes g.rules) → IsListing g (expr.Many kind e other)
-  bound_lists kind e card other there =
-      let node = node_of g.rules (expr.Many kind e card) there in
+  -- a container of whatever kind, with any bound, over the element of a container of the rules
+  pub bound_lists : (container kind : Kind) (e : Expression) (card other : Card) → IsIn (expr.Many container e card) (all_nodes g.rules) → IsListing g (expr.Many kind e other)
+  bound_lists container kind e card other there =
+      let node = node_of g.rules (expr.Many container e card) there in
       listing_from g (expr.Many kind e other) (λ u s p.
       higher u s p.1 (λ h high.
       bound_within g full ranks ranked (bounds g u) (most_arguments g.rules) (omega arith) (omega arith) (omega arith) (narrow g)
-      s kind e card other node.0 h node.1 p.0 (label_room u s p.1) high))
+      s container kind e card other node.0 h node.1 p.0 (label_room u s p.1) high))

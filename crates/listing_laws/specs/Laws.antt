@@ -4,7 +4,7 @@ use Rattle.spec_syntax.specs.declared.expr.Card.{Card}
 use Rattle.spec_syntax.specs.declared.expr.Kind.{Kind}
 use Rattle.spec_syntax.specs.declared.expr.Kind.TheVariants as kind
 use Rattle.spec_syntax.specs.Expression.{Expression, Expressions, Epsilon, Atom, Name, Union, Prod, Many, no_expressions, more_expressions, expressions_of, expression_list}
-use Rattle.spec_syntax.specs.Rules.{symbol, right_side, all_nodes, is_spec, are_sequences}
+use Rattle.spec_syntax.specs.Rules.{symbol, right_side, all_nodes, is_spec}
 use Rattle.spec_syntax.specs.Grammar.{Grammar}
 use Rattle.struct_model.specs.Structure.{Structure, size}
 use Rattle.struct_model.specs.Membership.{is_of, supply, is_supply}
@@ -93,15 +93,15 @@ pub record IsListing (g : Grammar) (e : Expression) : Type 0 where
   pub only : (u : List ℕ) (ss : List Structure) → IsTrue (is_supply g.universe u) → Lists g e u ss → ss ≡ listing g e u
 
 -- Where a grammar is well founded there is exactly one listing of each name, of each expression in the rules and of the last
--- components of each Prod, and the structures that are picked within the bounds are it. The same holds of a container of the
--- rules with another bound.
+-- components of each Prod, and the structures that are picked within the bounds are it. The same holds of a container of any
+-- kind and with any bound over the element of a container in the rules, in either universe.
 pub record WellFoundedIsListed : Type 0 where
   pub names : (g : Grammar) (name : List ℕ) → IsTrue (is_spec g.rules) → IsWellFounded g → IsListing g (Name name)
   pub nodes : (g : Grammar) (e : Expression) → IsTrue (is_spec g.rules) → IsWellFounded g → IsIn e (all_nodes g.rules) → IsListing g e
   pub suffixes : (g : Grammar) (earlier later : List Expression) → IsTrue (is_spec g.rules) → IsWellFounded g
       → IsIn (Prod (expressions_of (earlier ++ later))) (all_nodes g.rules) → IsListing g (Prod (expressions_of later))
-  pub bounds : (g : Grammar) (kind : Kind) (e : Expression) (card other : Card) → IsTrue (is_spec g.rules) → IsWellFounded g
-      → IsIn (Many kind e card) (all_nodes g.rules) → IsListing g (Many kind e other)
+  pub containers : (g : Grammar) (container kind : Kind) (e : Expression) (card other : Card) → IsTrue (is_spec g.rules) → IsWellFounded g
+      → IsIn (Many container e card) (all_nodes g.rules) → IsListing g (Many kind e other)
 
 -- In a well founded grammar the listings are made of the listings inside. A Prod goes split by split of the supply, and a Sequence
 -- part by part, by the Sequences of the components after the first one. On each supply a listing is that on the first labels of
@@ -133,12 +133,11 @@ pub record ListingsRecur : Type 0 where
       → repeated_on g e other u ≡ map (map (relabelled u)) (repeated_on g e other (supply g.universe (length u)))
 
 -- Where the other refusals don't hold, a rule is refused as endless exactly where some class has endlessly many members of one
--- size. The rule itself has endlessly many of the size that is told, unless that is too great.
+-- size, in the grammar with each PowerSet read as Set. The rule itself has endlessly many of the size that is told, unless that
+-- is too great.
 pub record EndlessByMembers : Type 0 where
-  pub many : (g : Grammar) (start : Option (List ℕ)) (name : List ℕ) (n : ℕ) → IsTrue (is_spec g.rules) → IsTrue (are_sequences g.rules)
-      → IsCulprit g start (Endless name n) → (x : List ℕ) × (m : ℕ) × HasEndlesslyMany g x m
-  pub told : (g : Grammar) (start : Option (List ℕ)) (name : List ℕ) (n : ℕ) → IsTrue (is_spec g.rules) → IsTrue (are_sequences g.rules)
-      → IsCulprit g start (Endless name n) → n < no_least → HasEndlesslyMany g name n
-  pub endless : (g : Grammar) (start : Option (List ℕ)) (x : List ℕ) (m : ℕ) → IsTrue (is_spec g.rules) → IsTrue (are_sequences g.rules)
+  pub many : (g : Grammar) (start : Option (List ℕ)) (name : List ℕ) (n : ℕ) → IsCulprit g start (Endless name n) → (x : List ℕ) × (m : ℕ) × HasEndlesslyMany g x m
+  pub told : (g : Grammar) (start : Option (List ℕ)) (name : List ℕ) (n : ℕ) → IsCulprit g start (Endless name n) → n < no_least → HasEndlesslyMany g name n
+  pub endless : (g : Grammar) (start : Option (List ℕ)) (x : List ℕ) (m : ℕ)
       → undefined_name g.rules start ≡ None → OfNone (HoldsCycle g) g.rules → IsEachProductive g → OfNone (HoldsNull g) g.rules
       → HasEndlesslyMany g x m → (name : List ℕ) × (n : ℕ) × IsCulprit g start (Endless name n)

@@ -5,3 +5,11 @@ pub mod Endless
 pub mod Relabelled
 pub mod Numbers
 pub mod NodeListing
+pub mod SetListing
+pub mod ContainerNumbers
+pub mod LeastFirst
+pub mod ContainersRecur
+pub mod SortedListing
+pub mod LeastNodes
+pub mod Followers
+pub mod SortedNodes

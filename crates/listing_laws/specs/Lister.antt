@@ -42,6 +42,10 @@ alternatives k (structures ∷ others) = map (Alt k) structures ++ alternatives 
 abbrev pub each_before : List Structure → List (List Structure) → List (List Structure)
 each_before firsts others = flat_map (λ first. map (λ rest. first ∷ rest) others) firsts
 
+-- each first component before each list of those that go on from it
+abbrev pub each_going_on : List Structure → (Structure → List (List Structure)) → List (List Structure)
+each_going_on firsts others = flat_map (λ first. map (λ rest. first ∷ rest) (others first)) firsts
+
 -- the lists of components: split by split of the supply, then by the first component, then by the others
 abbrev pub by_splits : (List ℕ → List Structure) → (List ℕ → List (List Structure)) → List ℕ → List (List Structure)
 by_splits first others u = flat_map (λ split. each_before (first split.part) (others split.rest)) (splits u)

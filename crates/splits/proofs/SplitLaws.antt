@@ -18,18 +18,18 @@ pub record MakesUp (u : List ℕ) (split : Split) : Type 0 where
   pub whole : ascending (split.part ++ split.rest) ≡ u
 
 module _ (label : ℕ) (labels : List ℕ) (least : AtLeast label labels) (risen : Rises labels) where
-  abbrev whole : List ℕ
+  abbrev pub whole : List ℕ
   whole = label ∷ labels
 
-  abbrev none_taken : Split
+  abbrev pub none_taken : Split
   none_taken = record { part = []; rest = whole }
 
   -- the split takes the first label
-  abbrev Taking : Split → Type 0
+  abbrev pub Taking : Split → Type 0
   Taking split = (others : Split) × MakesUp labels others × (split ≡ taking label others)
 
   -- the split begins with a greater label
-  abbrev Leaving : Split → Type 0
+  abbrev pub Leaving : Split → Type 0
   Leaving split = (others : Split) × (MakesUp labels others × (begins_above label others ≡ true)) × (split ≡ leaving label others)
 
   none_is : MakesUp whole none_taken
@@ -38,7 +38,7 @@ module _ (label : ℕ) (labels : List ℕ) (least : AtLeast label labels) (risen
   least_of : (ns : List ℕ) → ascending ns ≡ labels → AtLeast label ns
   least_of ns same = from_ascending (From label) ns (subst (AtLeast label) (sym same) least)
 
-  taking_is : (split : Split) → MakesUp labels split → MakesUp whole (taking label split)
+  pub taking_is : (split : Split) → MakesUp labels split → MakesUp whole (taking label split)
   taking_is split s = record {
     part = (each_left (From label) split.part split.rest (least_of (split.part ++ split.rest) s.whole), s.part);
     rest = s.rest;
@@ -114,10 +114,10 @@ module _ (label : ℕ) (labels : List ℕ) (least : AtLeast label labels) (risen
       ]
 
   -- each split takes nothing, takes the first label, or takes a greater one first
-  cases : (split : Split) → MakesUp whole split → (split ≡ none_taken) ⊎ (Taking split ⊎ Leaving split)
+  pub cases : (split : Split) → MakesUp whole split → (split ≡ none_taken) ⊎ (Taking split ⊎ Leaving split)
   cases split s = cases_at split.part split.rest s
 
-  begun_above : (split : Split) → begins_above label split ≡ true → (n : ℕ) × (ns : List ℕ) × (split.part ≡ n ∷ ns) × (label < n)
+  pub begun_above : (split : Split) → begins_above label split ≡ true → (n : ℕ) × (ns : List ℕ) × (split.part ≡ n ∷ ns) × (label < n)
   begun_above split h = begun_at split.part h
     where
       begun_at : (part : List ℕ) → begins_above label (record { part = part; rest = [] }) ≡ true → (n : ℕ) × (ns : List ℕ) × (part ≡ n ∷ ns) × (label < n)

@@ -32,7 +32,7 @@ zeros_split (suc k) m zero e = absurd (omega arith)
 zeros_split (suc k) m (suc n) e =
     inr (in_left _ _ _ (in_map (taking 0) (record { part = replicate k 0; rest = replicate m 0 }) (splits (replicate n 0)) (zeros_split k m n (omega arith))))
 
-zeros_before : (k n : ℕ) → k < n → slice_cmp nat_cmp (replicate k 0) (replicate n 0) ≡ Less
+pub zeros_before : (k n : ℕ) → k < n → slice_cmp nat_cmp (replicate k 0) (replicate n 0) ≡ Less
 zeros_before k zero h = absurd (omega arith)
 zeros_before zero (suc n) h = refl
 zeros_before (suc k) (suc n) h = same_first 0 (replicate k 0) (replicate n 0) ∙ zeros_before k n (omega arith)
