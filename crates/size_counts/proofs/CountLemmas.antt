@@ -1,64 +1,43 @@
 -- The count of a node by those of the nodes below it.
 use Rattle.std.proofs.Common.{◌≡◌, ℕ, zero, suc, ◌+◌, ◌-◌, ◌<◌, ◌≤◌, min, Bool, true, false, true≢false, List, [], ◌∷◌, length, map, take, Option, Some, None, slice_get, refl, sym, ap, ◌∙◌, subst, inl, inr, arith, IsTrue}
 use Rattle.std.specs.Prelude.{◌&&◌, nat_le, if◌then◌else◌}
-use Rattle.std.specs.List.{sum, range_with_len, list_all}
+use Rattle.std.specs.List.{sum, range_with_len}
 use Rattle.std.specs.Option.{option_map, option_map_or, option_and_then}
-use Rattle.std.proofs.lemmas.Bool.{cases_lt, leb-true, and_parts}
+use Rattle.std.proofs.lemmas.Bool.{cases_lt, leb-true}
 use Rattle.std.proofs.lemmas.List.{take_all, nil_from_length}
 use Rattle.std.proofs.lemmas.List.FromFn.{sum_by-map-range_with_len_more, length-map-range_with_len}
 use Rattle.lists.proofs.Positions.{slice_some}
 use Rattle.lists.proofs.Sums.{sum_more}
 use Rattle.lists.proofs.RangeSums.{sum_append}
 use Rattle.spec_syntax.specs.declared.expr.Card.{Card}
-use Rattle.spec_syntax.specs.declared.expr.Kind.TheVariants as kind
+use Rattle.spec_syntax.specs.declared.expr.Kind.{Kind}
+use Rattle.spec_syntax.specs.declared.expr.Kind.TheVariants as kinds
 use Rattle.spec_syntax.specs.Card.{admits, is_within}
 use Rattle.spec_syntax.specs.Expression as expr
-use Rattle.spec_syntax.specs.Expression.{Expression, Expressions, expression_list, expressions_of, is_sequence_at_most}
-use Rattle.spec_syntax.specs.Rules.{Rules, all_nodes, symbol, right_side, are_sequences}
+use Rattle.spec_syntax.specs.Expression.{Expression, Expressions, expression_list, expressions_of}
+use Rattle.spec_syntax.specs.Rules.{Rules, all_nodes, symbol, right_side}
 use Rattle.spec_syntax.specs.Grammar.{Grammar}
 use Rattle.spec_syntax.specs.Nodes.{node_at, name_at, name_of, card_at, children_at, children_of, arguments_at, arguments_of, below, right_node}
 use Rattle.spec_syntax.proofs.NodesLemmas.{in_nodes, length-children_of}
 use Rattle.struct_model.specs.Bounded.{number}
 use Rattle.well_founded.specs.declared.node.NodeKind.{NodeKind}
 use Rattle.well_founded.specs.declared.node.NodeKind.TheVariants as told
-use Rattle.well_founded.specs.NodeKinds.{kind_of}
+use Rattle.well_founded.specs.NodeKinds.{kind_of, container, is_container}
 use Rattle.well_founded.specs.SameSize.{is_told_inside}
 use Rattle.well_founded.specs.Checked.{Checked, IsChecked, grammar}
 use Rattle.listing_laws.specs.Numbers.{one_at}
 use Rattle.splits.specs.Capped.{Tells}
-use Rattle.size_counts.specs.Numbers.{list_number, most_components}
+use Rattle.listing_laws.specs.ContainersRecur.{of_components}
+use Rattle.size_counts.specs.Numbers.{most_components}
+use Rattle.size_counts.specs.Components.{of_none}
 use Rattle.size_counts.specs.Suffixes.{FirstsTold, AreBegun}
 use Rattle.size_counts.specs.Turns.{EachTold, NameTold, LongerTold, word_size}
-use Rattle.size_counts.proofs.Law.{recur}
+use Rattle.size_counts.proofs.Law.{recur, counted, containers}
 use Rattle.size_counts.proofs.ReachedLemmas.{take_one, told_name}
 use Rattle.size_counts.proofs.TableLemmas.{made_at}
-use Rattle.size_counts.proofs.ListLemmas.{tells_by, card_same}
+use Rattle.size_counts.proofs.ListLemmas.{tells_by, card_same, kind_same, container_there}
+use Rattle.size_counts.proofs.Containers.{none_is}
 use Rattle.size_counts.proofs.SuffixLemmas.{again}
-
--- a Sequence and its bound
-pub sequence_there : (found : Option Expression) → option_map kind_of found ≡ Some told.Sequence → (element : Expression) × (card : Card) × (found ≡ Some (expr.Many kind.Sequence element card))
-sequence_there None is = absurd (cc)
-sequence_there (Some expr.Epsilon) is = absurd (cc)
-sequence_there (Some expr.Atom) is = absurd (cc)
-sequence_there (Some (expr.Name name)) is = absurd (cc)
-sequence_there (Some (expr.Union es)) is = absurd (cc)
-sequence_there (Some (expr.Prod es)) is = absurd (cc)
-sequence_there (Some (expr.Many kind.Sequence e card)) is = (e, card, refl)
-sequence_there (Some (expr.Many kind.Set e card)) is = absurd (cc)
-sequence_there (Some (expr.Many kind.PowerSet e card)) is = absurd (cc)
-sequence_there (Some (expr.Many kind.Cycle e card)) is = absurd (cc)
-
--- is it a container but no Sequence
-abbrev pub is_other : NodeKind → Bool
-is_other told.Epsilon = false
-is_other told.Atom = false
-is_other told.Rule = false
-is_other told.Union = false
-is_other told.Prod = false
-is_other told.Sequence = false
-is_other told.Set = true
-is_other told.PowerSet = true
-is_other told.Cycle = true
 
 -- ---- sums
 
@@ -93,10 +72,10 @@ module _ (checked : Checked) (is_checked : IsChecked checked) (node m : ℕ) (no
       ∙ sym (recur.union (grammar checked) arguments m is_checked.spec is_checked.well_founded (in_nodes checked.rules node _ at)))
       so_far
 
-  -- a Sequence
-  module _ (element : Expression) (card : Card) (at : node_at checked.rules node ≡ Some (expr.Many kind.Sequence element card)) where
+  -- a container
+  module _ (kind : Kind) (element : Expression) (card : Card) (at : node_at checked.rules node ≡ Some (expr.Many kind element card)) where
     abbrev term : ℕ → ℕ
-    term c = if admits card c then list_number (grammar checked) element c m else 0
+    term c = if admits card c then of_components (grammar checked) kind element c m else 0
 
     -- as many components as the bound admits are looked at
     pub admitted_looked : (c : ℕ) → admits card c ≡ true → c ≤ m → c ≤ most_components card m
@@ -110,75 +89,67 @@ module _ (checked : Checked) (is_checked : IsChecked checked) (node m : ℕ) (no
         by None within = omega arith
         by (Some high) within = omega (arith, leb-true c high within)
 
-    -- the numbers of lists of c components
-    pub list_is : (c : ℕ) (listed current : Option ℕ) (longer : List (Option ℕ)) → admits card c ≡ true → c ≤ m → LongerTold checked node m longer
-        → (c ≡ 0 → Tells listed (one_at 0 m)) → (c ≡ 1 → listed ≡ current) → (2 ≤ c → slice_get longer (c - 2) ≡ Some listed)
-        → (admits card 1 ≡ true → Tells current (number (grammar checked) element m)) → Tells listed (list_number (grammar checked) element c m)
-    list_is zero listed current longer is low more none one some told =
-        tells_by listed _ _ (sym (recur.no_lists (grammar checked) element card m is_checked.spec is_checked.well_founded (in_nodes checked.rules node _ at))) (none refl)
-    list_is (suc zero) listed current longer is low more none one some told =
-        tells_by listed _ _ (sym (recur.one_list (grammar checked) element card m is_checked.spec is_checked.well_founded (in_nodes checked.rules node _ at)))
-        (subst (λ (o : Option ℕ). Tells o (number (grammar checked) element m)) (sym (one refl)) (told is))
-    list_is (suc (suc c)) listed current longer is low more none one some told =
-        let all = more element card at in
-        let looked = admitted_looked (suc (suc c)) is low in
-        all.each (suc (suc c) - 2) _ listed (some (omega arith))
-        (made_at (λ (k : ℕ). list_number (grammar checked) element k m) 2 (most_components card m - 1) (suc (suc c) - 2) (omega (arith, looked))
-        ∙ ap (λ (k : ℕ). Some (list_number (grammar checked) element k m)) (back c))
+    -- the numbers of containers of c components
+    pub components_are : (c : ℕ) (read : NodeKind) (found current : Option ℕ) (longer : List (Option ℕ)) → read ≡ container kind → c ≤ most_components card m → LongerTold checked node m longer
+        → (c ≡ 0 → Tells found (of_none read m)) → (c ≡ 1 → found ≡ current) → (2 ≤ c → slice_get longer (c - 2) ≡ Some found)
+        → (c ≡ 1 → Tells current (number (grammar checked) element m)) → Tells found (of_components (grammar checked) kind element c m)
+    components_are zero read found current longer same looked more none one some told =
+        tells_by found _ _ (ap (λ (k : NodeKind). of_none k m) same ∙ sym (none_is (grammar checked) element card is_checked.spec is_checked.well_founded kind m (in_nodes checked.rules node _ at))) (none refl)
+    components_are (suc zero) read found current longer same looked more none one some told =
+        tells_by found _ _ (sym (containers.one (grammar checked) kind element card m is_checked.spec is_checked.well_founded (in_nodes checked.rules node _ at)))
+        (subst (λ (o : Option ℕ). Tells o (number (grammar checked) element m)) (sym (one refl)) (told refl))
+    components_are (suc (suc c)) read found current longer same looked more none one some told =
+        let all = more kind element card at in
+        all.each (suc (suc c) - 2) _ found (some (omega arith))
+        (made_at (λ (k : ℕ). of_components (grammar checked) kind element k m) 2 (most_components card m - 1) (suc (suc c) - 2) (omega (arith, looked))
+        ∙ ap (λ (k : ℕ). Some (of_components (grammar checked) kind element k m)) (back c))
       where
         back : (c : ℕ) → 2 + (suc (suc c) - 2) ≡ suc (suc c)
         back c = omega arith
 
-    -- there is room among the longer lists
-    pub longer_room : (longer : List (Option ℕ)) (c : ℕ) → LongerTold checked node m longer → admits card c ≡ true → c ≤ m → 2 ≤ c → c < length longer + 2
-    longer_room longer c more is low two =
-        let all = more element card at in
-        let numbers : length (map (λ (k : ℕ). list_number (grammar checked) element k m) (range_with_len 2 (most_components card m - 1))) ≡ most_components card m - 1 =
-        length-map-range_with_len (λ (k : ℕ). list_number (grammar checked) element k m) 2 (most_components card m - 1) in
-        omega (arith, all.for_each, numbers, admitted_looked c is low)
+    -- there is room among the longer ones
+    pub longer_room : (longer : List (Option ℕ)) (c : ℕ) → LongerTold checked node m longer → c ≤ most_components card m → 2 ≤ c → c < length longer + 2
+    longer_room longer c more looked two =
+        let all = more kind element card at in
+        let numbers : length (map (λ (k : ℕ). of_components (grammar checked) kind element k m) (range_with_len 2 (most_components card m - 1))) ≡ most_components card m - 1 =
+        length-map-range_with_len (λ (k : ℕ). of_components (grammar checked) kind element k m) 2 (most_components card m - 1) in
+        omega (arith, all.for_each, numbers, looked)
 
     sums : (c : ℕ) → sum (map term (range_with_len 0 (c + 1))) ≡ sum (map term (range_with_len 0 c)) + term c
     sums c = sum_by-map-range_with_len_more (λ (x : ℕ). x) term 0 c c (omega arith)
 
-    pub sequence_step : (c : ℕ) (before listed after : Option ℕ) → admits card c ≡ true → Tells listed (list_number (grammar checked) element c m)
-        → ((x y : ℕ) → Tells before x → Tells listed y → Tells after (x + y)) → Tells before (sum (map (λ c. if admits card c then list_number (grammar checked) element c m else 0) (range_with_len 0 c)))
-        → Tells after (sum (map (λ c. if admits card c then list_number (grammar checked) element c m else 0) (range_with_len 0 (c + 1))))
-    sequence_step c before listed after is told_list plus so_far =
-        tells_by after _ _ (ap (λ (k : ℕ). sum (map term (range_with_len 0 c)) + k) (sym (ap (λ (b : Bool). if b then list_number (grammar checked) element c m else 0) is)) ∙ sym (sums c)) (plus _ _ so_far told_list)
-
-    pub sequence_pass : (c : ℕ) (before : Option ℕ) → admits card c ≡ false → Tells before (sum (map (λ c. if admits card c then list_number (grammar checked) element c m else 0) (range_with_len 0 c)))
-        → Tells before (sum (map (λ c. if admits card c then list_number (grammar checked) element c m else 0) (range_with_len 0 (c + 1))))
-    sequence_pass c before is so_far =
-        let none : term c ≡ 0 = ap (λ (b : Bool). if b then list_number (grammar checked) element c m else 0) is in
-        tells_by before _ _ (let e : sum (map term (range_with_len 0 c)) ≡ sum (map term (range_with_len 0 (c + 1))) = omega (arith, sums c, none) in e) so_far
-
     -- a step of the loop, where the bound admits so many components
-    pub sequence_taken : (child c : ℕ) (read : Card) (current before listed after sum_now : Option ℕ) (longer : List (Option ℕ))
-        → (admits card 1 ≡ true → EachTold (grammar checked) (element ∷ []) (children_at checked.rules node) now m)
+    pub container_taken : (child c : ℕ) (kind_read : NodeKind) (read : Card) (current before found after sum_now : Option ℕ) (longer : List (Option ℕ))
+        → (admits card 1 ≡ true → EachTold (grammar checked) (element ∷ []) (children_at checked.rules node) now m) → option_map kind_of (node_at checked.rules node) ≡ Some kind_read
         → slice_get (children_at checked.rules node) 0 ≡ Some child → slice_get now child ≡ Some current → card_at checked.rules node ≡ Some read → admits read c ≡ true → c ≤ m → LongerTold checked node m longer
-        → (c ≡ 0 → Tells listed (one_at 0 m)) → (c ≡ 1 → listed ≡ current) → (2 ≤ c → slice_get longer (c - 2) ≡ Some listed)
-        → ((x y : ℕ) → Tells before x → Tells listed y → Tells after (x + y)) → sum_now ≡ after
-        → Tells before (sum (map (λ c. if admits card c then list_number (grammar checked) element c m else 0) (range_with_len 0 c)))
-        → Tells sum_now (sum (map (λ c. if admits card c then list_number (grammar checked) element c m else 0) (range_with_len 0 (c + 1))))
-    sequence_taken child c read current before listed after sum_now longer each child_is now_at card_is is low more none one some plus same so_far =
-        let admitted_c : admits card c ≡ true = subst (λ (k : Card). admits k c ≡ true) (card_same (node_at checked.rules node) element card read at card_is) is in
-        let current_told : admits card 1 ≡ true → Tells current (number (grammar checked) element m) = λ may. each may 0 child element current refl child_is now_at in
-        subst (λ (o : Option ℕ). Tells o (sum (map (λ c. if admits card c then list_number (grammar checked) element c m else 0) (range_with_len 0 (c + 1))))) (sym same)
-        (sequence_step c before listed after admitted_c (list_is c listed current longer admitted_c low more none one some current_told) plus so_far)
+        → (c ≡ 0 → Tells found (of_none kind_read m)) → (c ≡ 1 → found ≡ current) → (2 ≤ c → slice_get longer (c - 2) ≡ Some found)
+        → ((x y : ℕ) → Tells before x → Tells found y → Tells after (x + y)) → sum_now ≡ after
+        → Tells before (sum (map (λ c. if admits card c then of_components (grammar checked) kind element c m else 0) (range_with_len 0 c)))
+        → Tells sum_now (sum (map (λ c. if admits card c then of_components (grammar checked) kind element c m else 0) (range_with_len 0 (c + 1))))
+    container_taken child c kind_read read current before found after sum_now longer each kind_is child_is now_at card_is is low more none one some plus same so_far =
+        let admitted_c : admits card c ≡ true = subst (λ (k : Card). admits k c ≡ true) (card_same (node_at checked.rules node) kind element card read at card_is) is in
+        let current_told : c ≡ 1 → Tells current (number (grammar checked) element m) = λ one_is. each (ap (admits card) (sym one_is) ∙ admitted_c) 0 child element current refl child_is now_at in
+        let found_told =
+        components_are c kind_read found current longer (kind_same (node_at checked.rules node) kind element card kind_read at kind_is) (admitted_looked c admitted_c low) more none one some current_told in
+        subst (λ (o : Option ℕ). Tells o (sum (map (λ c. if admits card c then of_components (grammar checked) kind element c m else 0) (range_with_len 0 (c + 1))))) (sym same)
+        (tells_by after _ _
+        (ap (λ (n : ℕ). sum (map term (range_with_len 0 c)) + n) (sym (ap (λ (b : Bool). if b then of_components (grammar checked) kind element c m else 0) admitted_c)) ∙ sym (sums c)) (plus _ _ so_far found_told))
 
-    pub sequence_passed : (c : ℕ) (read : Card) (before sum_now : Option ℕ) → card_at checked.rules node ≡ Some read → admits read c ≡ false → sum_now ≡ before
-        → Tells before (sum (map (λ c. if admits card c then list_number (grammar checked) element c m else 0) (range_with_len 0 c)))
-        → Tells sum_now (sum (map (λ c. if admits card c then list_number (grammar checked) element c m else 0) (range_with_len 0 (c + 1))))
-    sequence_passed c read before sum_now card_is is same so_far =
-        let refused : admits card c ≡ false = subst (λ (k : Card). admits k c ≡ false) (card_same (node_at checked.rules node) element card read at card_is) is in
-        subst (λ (o : Option ℕ). Tells o (sum (map (λ c. if admits card c then list_number (grammar checked) element c m else 0) (range_with_len 0 (c + 1))))) (sym same) (sequence_pass c before refused so_far)
+    pub container_passed : (c : ℕ) (read : Card) (before sum_now : Option ℕ) → card_at checked.rules node ≡ Some read → admits read c ≡ false → sum_now ≡ before
+        → Tells before (sum (map (λ c. if admits card c then of_components (grammar checked) kind element c m else 0) (range_with_len 0 c)))
+        → Tells sum_now (sum (map (λ c. if admits card c then of_components (grammar checked) kind element c m else 0) (range_with_len 0 (c + 1))))
+    container_passed c read before sum_now card_is is same so_far =
+        let refused : admits card c ≡ false = subst (λ (k : Card). admits k c ≡ false) (card_same (node_at checked.rules node) kind element card read at card_is) is in
+        let none : term c ≡ 0 = ap (λ (b : Bool). if b then of_components (grammar checked) kind element c m else 0) refused in
+        subst (λ (o : Option ℕ). Tells o (sum (map (λ c. if admits card c then of_components (grammar checked) kind element c m else 0) (range_with_len 0 (c + 1))))) (sym same)
+        (tells_by before _ _ (let e : sum (map term (range_with_len 0 c)) ≡ sum (map term (range_with_len 0 (c + 1))) = omega (arith, sums c, none) in e) so_far)
 
-    pub sequence_all : (c : ℕ) (told : Option ℕ) → c ≡ m + 1 → Tells told (sum (map (λ c. if admits card c then list_number (grammar checked) element c m else 0) (range_with_len 0 c)))
-        → Tells told (number (grammar checked) (expr.Many kind.Sequence element card) m)
-    sequence_all c told same so_far =
+    pub container_all : (c : ℕ) (told : Option ℕ) → c ≡ m + 1 → Tells told (sum (map (λ c. if admits card c then of_components (grammar checked) kind element c m else 0) (range_with_len 0 c)))
+        → Tells told (number (grammar checked) (expr.Many kind element card) m)
+    container_all c told same so_far =
         tells_by told _ _
         (ap (λ (n : ℕ). sum (map term (range_with_len 0 n))) same
-        ∙ sym (recur.sequence (grammar checked) element card m is_checked.spec is_checked.well_founded (in_nodes checked.rules node _ at)))
+        ∙ sym (counted.by_components (grammar checked) kind element card m is_checked.spec is_checked.well_founded (in_nodes checked.rules node _ at)))
         so_far
 
 -- ---- a Prod, from its first suffixes
@@ -190,10 +161,10 @@ prod_found (Some expr.Atom) is = absurd (cc)
 prod_found (Some (expr.Name name)) is = absurd (cc)
 prod_found (Some (expr.Union es)) is = absurd (cc)
 prod_found (Some (expr.Prod es)) is = (es, refl)
-prod_found (Some (expr.Many kind.Sequence e card)) is = absurd (cc)
-prod_found (Some (expr.Many kind.Set e card)) is = absurd (cc)
-prod_found (Some (expr.Many kind.PowerSet e card)) is = absurd (cc)
-prod_found (Some (expr.Many kind.Cycle e card)) is = absurd (cc)
+prod_found (Some (expr.Many kinds.Sequence e card)) is = absurd (cc)
+prod_found (Some (expr.Many kinds.Set e card)) is = absurd (cc)
+prod_found (Some (expr.Many kinds.PowerSet e card)) is = absurd (cc)
+prod_found (Some (expr.Many kinds.Cycle e card)) is = absurd (cc)
 
 pub prod_empty : (g : Grammar) (arguments : Expressions) (m : ℕ) (firsts : List (Option ℕ)) (told : Option ℕ) → AreBegun arguments firsts → length firsts ≡ 0 → Tells told (one_at 0 m) → Tells told (number g (expr.Prod arguments) m)
 prod_empty g arguments m firsts told begun short is =
@@ -214,10 +185,10 @@ word_number checked expr.Atom m size is = let same : 1 ≡ size = cc in recur.at
 word_number checked (expr.Name name) m size is = absurd (cc)
 word_number checked (expr.Union es) m size is = absurd (cc)
 word_number checked (expr.Prod es) m size is = absurd (cc)
-word_number checked (expr.Many kind.Sequence e card) m size is = absurd (cc)
-word_number checked (expr.Many kind.Set e card) m size is = absurd (cc)
-word_number checked (expr.Many kind.PowerSet e card) m size is = absurd (cc)
-word_number checked (expr.Many kind.Cycle e card) m size is = absurd (cc)
+word_number checked (expr.Many kinds.Sequence e card) m size is = absurd (cc)
+word_number checked (expr.Many kinds.Set e card) m size is = absurd (cc)
+word_number checked (expr.Many kinds.PowerSet e card) m size is = absurd (cc)
+word_number checked (expr.Many kinds.Cycle e card) m size is = absurd (cc)
 
 no_word : (e : Expression) → word_size (kind_of e) ≡ None → IsTrue (is_told_inside e)
 no_word expr.Epsilon is = absurd (cc)
@@ -237,10 +208,10 @@ module _ (checked : Checked) (is_checked : IsChecked checked) (node m sym_number
   name_of_it (expr.Name name) is named f side = recur.name (grammar checked) name sym_number f m is_checked.spec is_checked.well_founded named side
   name_of_it (expr.Union es) is named f side = absurd (cc)
   name_of_it (expr.Prod es) is named f side = absurd (cc)
-  name_of_it (expr.Many kind.Sequence e card) is named f side = absurd (cc)
-  name_of_it (expr.Many kind.Set e card) is named f side = absurd (cc)
-  name_of_it (expr.Many kind.PowerSet e card) is named f side = absurd (cc)
-  name_of_it (expr.Many kind.Cycle e card) is named f side = absurd (cc)
+  name_of_it (expr.Many kinds.Sequence e card) is named f side = absurd (cc)
+  name_of_it (expr.Many kinds.Set e card) is named f side = absurd (cc)
+  name_of_it (expr.Many kinds.PowerSet e card) is named f side = absurd (cc)
+  name_of_it (expr.Many kinds.Cycle e card) is named f side = absurd (cc)
 
   found : (f : Expression) × (node_at checked.rules right ≡ Some f)
   found = slice_some (all_nodes checked.rules) right within
@@ -266,18 +237,30 @@ module _ (checked : Checked) (is_checked : IsChecked checked) (node m sym_number
       below_is_right : below checked.rules node e ≡ right ∷ []
       below_is_right = sym (told_name checked.rules node sym_number right is named right_is e at)
 
--- of a Sequence whose element and bound are not named
-pub longer_there : (checked : Checked) → IsChecked checked → (node m c : ℕ) (now longer : List (Option ℕ)) (read : Card) → option_map kind_of (node_at checked.rules node) ≡ Some told.Sequence → card_at checked.rules node ≡ Some read
-    → LongerTold checked node m longer → admits read c ≡ true → c ≤ m → 2 ≤ c → c < length longer + 2
+-- of a container whose kind, element and bound are not named
+pub longer_there : (checked : Checked) → IsChecked checked → (node m c : ℕ) (now longer : List (Option ℕ)) (read : Card) → option_map is_container (option_map kind_of (node_at checked.rules node)) ≡ Some true
+    → card_at checked.rules node ≡ Some read → LongerTold checked node m longer → admits read c ≡ true → c ≤ m → 2 ≤ c → c < length longer + 2
 longer_there checked is_checked node m c now longer read is card_is more is_admitted low two =
-    let there = sequence_there (node_at checked.rules node) is in
-    longer_room checked is_checked node m now there.0 there.1 there.2 longer c more
-    (subst (λ (k : Card). admits k c ≡ true) (card_same (node_at checked.rules node) there.0 there.1 read there.2 card_is) is_admitted) low two
+    let there = container_there (node_at checked.rules node) is in
+    longer_room checked is_checked node m now there.0 there.1 there.2 there.3 longer c more
+    (admitted_looked checked is_checked node m now there.0 there.1 there.2 there.3 c
+    (subst (λ (k : Card). admits k c ≡ true) (card_same (node_at checked.rules node) there.0 there.1 there.2 read there.3 card_is) is_admitted) low) two
+
+-- and for the rows
+pub longer_within : (checked : Checked) → IsChecked checked → (node m c : ℕ) (now longer : List (Option ℕ)) (read : Card) → option_map is_container (option_map kind_of (node_at checked.rules node)) ≡ Some true
+    → card_at checked.rules node ≡ Some read → LongerTold checked node m longer → c ≤ most_components read m → 2 ≤ c → c < length longer + 2
+longer_within checked is_checked node m c now longer read is card_is more looked two =
+    let there = container_there (node_at checked.rules node) is in
+    longer_room checked is_checked node m now there.0 there.1 there.2 there.3 longer c more
+    (subst (λ (k : Card). c ≤ most_components k m) (card_same (node_at checked.rules node) there.0 there.1 there.2 read there.3 card_is) looked) two
 
 -- ---- what a node is
 
 pub kind_here : (rules : Rules) (n : ℕ) (e : Expression) (kind : NodeKind) → node_at rules n ≡ Some e → option_map kind_of (node_at rules n) ≡ Some kind → kind_of e ≡ kind
 kind_here rules n e kind at is = let here : Some (kind_of e) ≡ Some kind = sym (ap (option_map kind_of) at) ∙ is in cc
+
+pub read_container : (rules : Rules) (n : ℕ) (kind : NodeKind) → option_map kind_of (node_at rules n) ≡ Some kind → is_container kind ≡ true → option_map is_container (option_map kind_of (node_at rules n)) ≡ Some true
+read_container rules n kind at is = ap (option_map is_container) at ∙ ap Some is
 
 pub word_count : (checked : Checked) (node m size : ℕ) (e : Expression) (kind : NodeKind) (told : Option ℕ) → node_at checked.rules node ≡ Some e → option_map kind_of (node_at checked.rules node) ≡ Some kind
     → word_size kind ≡ Some size → Tells told (one_at size m) → Tells told (number (grammar checked) e m)
@@ -290,10 +273,10 @@ union_there expr.Atom is = absurd (cc)
 union_there (expr.Name name) is = absurd (cc)
 union_there (expr.Union es) is = (es, refl)
 union_there (expr.Prod es) is = absurd (cc)
-union_there (expr.Many kind.Sequence e card) is = absurd (cc)
-union_there (expr.Many kind.Set e card) is = absurd (cc)
-union_there (expr.Many kind.PowerSet e card) is = absurd (cc)
-union_there (expr.Many kind.Cycle e card) is = absurd (cc)
+union_there (expr.Many kinds.Sequence e card) is = absurd (cc)
+union_there (expr.Many kinds.Set e card) is = absurd (cc)
+union_there (expr.Many kinds.PowerSet e card) is = absurd (cc)
+union_there (expr.Many kinds.Cycle e card) is = absurd (cc)
 
 pub prod_there : (e : Expression) → kind_of e ≡ told.Prod → (es : Expressions) × (e ≡ expr.Prod es)
 prod_there expr.Epsilon is = absurd (cc)
@@ -301,29 +284,7 @@ prod_there expr.Atom is = absurd (cc)
 prod_there (expr.Name name) is = absurd (cc)
 prod_there (expr.Union es) is = absurd (cc)
 prod_there (expr.Prod es) is = (es, refl)
-prod_there (expr.Many kind.Sequence e card) is = absurd (cc)
-prod_there (expr.Many kind.Set e card) is = absurd (cc)
-prod_there (expr.Many kind.PowerSet e card) is = absurd (cc)
-prod_there (expr.Many kind.Cycle e card) is = absurd (cc)
-
--- no node is another container
-sequence_at_most : (e : Expression) → is_sequence_at_most e ≡ true → is_other (kind_of e) ≡ false
-sequence_at_most expr.Epsilon is = refl
-sequence_at_most expr.Atom is = refl
-sequence_at_most (expr.Name name) is = refl
-sequence_at_most (expr.Union es) is = refl
-sequence_at_most (expr.Prod es) is = refl
-sequence_at_most (expr.Many kind.Sequence e card) is = refl
-sequence_at_most (expr.Many kind.Set e card) is = absurd (true≢false (sym is))
-sequence_at_most (expr.Many kind.PowerSet e card) is = absurd (true≢false (sym is))
-sequence_at_most (expr.Many kind.Cycle e card) is = absurd (true≢false (sym is))
-
-pub no_other : (checked : Checked) (node : ℕ) (e : Expression) (kind : NodeKind) → IsTrue (are_sequences checked.rules) → node_at checked.rules node ≡ Some e → option_map kind_of (node_at checked.rules node) ≡ Some kind
-    → is_other kind ≡ true → ⊥
-no_other checked node e kind sequences at is other =
-    true≢false (sym other ∙ ap is_other (sym (kind_here checked.rules node e kind at is)) ∙ sequence_at_most e (all_at (all_nodes checked.rules) node e sequences at))
-  where
-    all_at : (es : List Expression) (i : ℕ) (e : Expression) → list_all is_sequence_at_most es ≡ true → slice_get es i ≡ Some e → is_sequence_at_most e ≡ true
-    all_at [] i e all at = absurd (cc)
-    all_at (first ∷ es) zero e all at = let same : first ≡ e = cc in subst (λ (x : Expression). is_sequence_at_most x ≡ true) same (and_parts (is_sequence_at_most first) (list_all is_sequence_at_most es) all).0
-    all_at (first ∷ es) (suc i) e all at = all_at es i e (and_parts (is_sequence_at_most first) (list_all is_sequence_at_most es) all).1 at
+prod_there (expr.Many kinds.Sequence e card) is = absurd (cc)
+prod_there (expr.Many kinds.Set e card) is = absurd (cc)
+prod_there (expr.Many kinds.PowerSet e card) is = absurd (cc)
+prod_there (expr.Many kinds.Cycle e card) is = absurd (cc)

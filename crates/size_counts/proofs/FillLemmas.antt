@@ -1,12 +1,17 @@
 -- The counts at a size, filled in by rising rank.
-use Rattle.std.proofs.Common.{◌≡◌, ℕ, ◌+◌, ◌<◌, ◌≤◌, Bool, List, [], ◌∷◌, ◌++◌, length, replicate, Option, Some, None, slice_get, refl, sym, ap, ◌∙◌, subst, inl, inr, arith}
+use Rattle.std.proofs.Common.{◌≡◌, ◌⊎◌, ℕ, ◌+◌, ◌-◌, ◌<◌, ◌≤◌, Bool, true, false, true≢false, List, [], ◌∷◌, ◌++◌, length, map, replicate, Option, Some, None, slice_get, refl, sym, ap, ◌∙◌, subst, inl, inr, arith}
 use Rattle.std.specs.Option.{option_map}
+use Rattle.std.specs.List.{range_with_len}
 use Rattle.std.proofs.Math.ListN.{set}
 use Rattle.std.proofs.lemmas.Bool.{cases_lt}
 use Rattle.std.proofs.lemmas.List.{length_push, length-set, length-replicate}
 use Rattle.std.proofs.lemmas.Option.{slice_get_within}
 use Rattle.lists.proofs.Places.{pushed_at}
-use Rattle.spec_syntax.specs.Expression.{Expression, Expressions, Prod}
+use Rattle.spec_syntax.specs.declared.expr.Card.{Card}
+use Rattle.spec_syntax.specs.declared.expr.Kind.{Kind}
+use Rattle.spec_syntax.specs.declared.expr.Kind.TheVariants as kinds
+use Rattle.spec_syntax.specs.declared.statement.Universe.TheVariants.{Labelled}
+use Rattle.spec_syntax.specs.Expression.{Expression, Expressions, Prod, Many}
 use Rattle.spec_syntax.specs.Rules.{all_nodes}
 use Rattle.spec_syntax.specs.Nodes.{node_at}
 use Rattle.spec_syntax.proofs.NodesLemmas.{in_nodes}
@@ -14,14 +19,18 @@ use Rattle.graphs.specs.Graph.{IsMarked}
 use Rattle.struct_model.specs.Bounded.{number}
 use Rattle.well_founded.specs.declared.node.NodeKind.{NodeKind}
 use Rattle.well_founded.specs.declared.node.NodeKind.TheVariants as told
-use Rattle.well_founded.specs.NodeKinds.{kind_of}
+use Rattle.well_founded.specs.NodeKinds.{kind_of, container, is_container}
 use Rattle.well_founded.specs.Checked.{Checked, IsChecked, grammar}
 use Rattle.splits.specs.Capped.{Tells}
+use Rattle.listing_laws.specs.ContainersRecur.{of_components}
 use Rattle.size_counts.specs.declared.tables.Tables.{Tables}
-use Rattle.size_counts.specs.Told.{TellNow}
+use Rattle.size_counts.specs.Numbers.{most_components}
+use Rattle.size_counts.specs.Told.{TellAll, TellNow}
 use Rattle.size_counts.specs.Suffixes.{FirstsTold}
 use Rattle.size_counts.specs.Turns.{LongerTold, BesideTold, AreBeside}
 use Rattle.size_counts.proofs.Law.{recur}
+use Rattle.size_counts.proofs.Containers.{cycle_labelled}
+use Rattle.size_counts.proofs.ListLemmas.{kind_same}
 use Rattle.size_counts.proofs.SumLemmas.{set_at, zeros_at}
 use Rattle.size_counts.proofs.SuffixLemmas.{firsts_none}
 
@@ -99,23 +108,74 @@ tell_zeros checked marks m n is_checked same = record {
 
 -- ---- what is told beside the count of each node
 
--- where nothing is, no Sequence has longer lists
-pub beside_nothing : (checked : Checked) (node m : ℕ) (kind : NodeKind) → option_map kind_of (node_at checked.rules node) ≡ Some kind → (kind ≡ told.Sequence → ⊥) → BesideTold checked node m []
-beside_nothing checked node m kind is other = record {
-  longer = λ element card at. absurd (other (let same : Some told.Sequence ≡ Some kind = sym (ap (option_map kind_of) at) ∙ is in cc));
+no_container : (kind : Kind) → is_container (container kind) ≡ false → ⊥
+no_container kinds.Sequence is = absurd (cc)
+no_container kinds.Set is = absurd (cc)
+no_container kinds.PowerSet is = absurd (cc)
+no_container kinds.Cycle is = absurd (cc)
+
+-- the kind of a container by that of its node
+pub kind_is : (kind other : Kind) → container kind ≡ container other → kind ≡ other
+kind_is kinds.Sequence kinds.Sequence same = refl
+kind_is kinds.Sequence kinds.Set same = absurd (cc)
+kind_is kinds.Sequence kinds.PowerSet same = absurd (cc)
+kind_is kinds.Sequence kinds.Cycle same = absurd (cc)
+kind_is kinds.Set kinds.Sequence same = absurd (cc)
+kind_is kinds.Set kinds.Set same = refl
+kind_is kinds.Set kinds.PowerSet same = absurd (cc)
+kind_is kinds.Set kinds.Cycle same = absurd (cc)
+kind_is kinds.PowerSet kinds.Sequence same = absurd (cc)
+kind_is kinds.PowerSet kinds.Set same = absurd (cc)
+kind_is kinds.PowerSet kinds.PowerSet same = refl
+kind_is kinds.PowerSet kinds.Cycle same = absurd (cc)
+kind_is kinds.Cycle kinds.Sequence same = absurd (cc)
+kind_is kinds.Cycle kinds.Set same = absurd (cc)
+kind_is kinds.Cycle kinds.PowerSet same = absurd (cc)
+kind_is kinds.Cycle kinds.Cycle same = refl
+
+-- the numbers of what is known to be a container of this kind
+pub told_of : (checked : Checked) (node m : ℕ) (known : Kind) (longer : List (Option ℕ)) → option_map kind_of (node_at checked.rules node) ≡ Some (container known)
+    → ((element : Expression) (card : Card) → node_at checked.rules node ≡ Some (Many known element card)
+    → TellAll longer (map (λ c. of_components (grammar checked) known element c m) (range_with_len 2 (most_components card m - 1)))) → LongerTold checked node m longer
+told_of checked node m known longer is all kind element card at =
+    by kind (kind_is kind known (sym (kind_same (node_at checked.rules node) kind element card (container known) at is))) at
+  where
+    by : (kind : Kind) → kind ≡ known → node_at checked.rules node ≡ Some (Many kind element card)
+        → TellAll longer (map (λ c. of_components (grammar checked) kind element c m) (range_with_len 2 (most_components card m - 1)))
+    by kind same here =
+        subst (λ (k : Kind). TellAll longer (map (λ c. of_components (grammar checked) k element c m) (range_with_len 2 (most_components card m - 1)))) (sym same)
+        (all element card (here ∙ ap (λ (k : Kind). Some (Many k element card)) same))
+
+-- a Sequence or a Cycle has a first component
+pub has_first : (checked : Checked) (node : ℕ) (kind : Kind) (element : Expression) (card : Card) (read : NodeKind) → IsChecked checked → option_map kind_of (node_at checked.rules node) ≡ Some read
+    → (read ≡ told.Sequence) ⊎ (read ≡ told.Cycle) → node_at checked.rules node ≡ Some (Many kind element card) → (kind ≡ kinds.Sequence) ⊎ (checked.universe ≡ Labelled)
+has_first checked node kind element card read is_checked is one at = elim one [
+  | inl sequence ↦ inl (kind_is kind kinds.Sequence (sym (kind_same (node_at checked.rules node) kind element card read at is) ∙ sequence))
+  | inr cycle ↦ inr (cycle_labelled (grammar checked) element card is_checked.spec is_checked.well_founded (in_nodes checked.rules node _
+      (at ∙ ap (λ (k : Kind). Some (Many k element card)) (kind_is kind kinds.Cycle (sym (kind_same (node_at checked.rules node) kind element card read at is) ∙ cycle)))))
+]
+
+-- where nothing is, there is no container
+pub beside_nothing : (checked : Checked) (node m : ℕ) (read : NodeKind) → option_map kind_of (node_at checked.rules node) ≡ Some read → is_container read ≡ false → BesideTold checked node m []
+beside_nothing checked node m read is none = record {
+  longer = λ kind element card at. absurd (no_container kind (ap is_container (sym (kind_same (node_at checked.rules node) kind element card read at is)) ∙ none));
   firsts = λ arguments at. firsts_none (grammar checked) arguments m;
 }
 
-pub beside_longer : (checked : Checked) (node m : ℕ) (longer : List (Option ℕ)) → option_map kind_of (node_at checked.rules node) ≡ Some told.Sequence → LongerTold checked node m longer → BesideTold checked node m longer
-beside_longer checked node m longer is more = record {
+pub beside_longer : (checked : Checked) (node m : ℕ) (longer : List (Option ℕ)) (read : NodeKind) → option_map kind_of (node_at checked.rules node) ≡ Some read → is_container read ≡ true → LongerTold checked node m longer
+    → BesideTold checked node m longer
+beside_longer checked node m longer read is container more = record {
   longer = more;
-  firsts = λ arguments at. let same : Some told.Prod ≡ Some told.Sequence = sym (ap (option_map kind_of) at) ∙ is in absurd (cc);
+  firsts = λ arguments at.
+      let same : Some told.Prod ≡ Some read = sym (ap (option_map kind_of) at) ∙ is in
+      let prod : told.Prod ≡ read = cc in
+      absurd (true≢false (sym container ∙ ap is_container (sym prod)));
 }
 
 pub beside_firsts : (checked : Checked) (node m : ℕ) (firsts : List (Option ℕ)) → option_map kind_of (node_at checked.rules node) ≡ Some told.Prod
     → ((arguments : Expressions) → node_at checked.rules node ≡ Some (Prod arguments) → FirstsTold (grammar checked) arguments m firsts) → BesideTold checked node m firsts
 beside_firsts checked node m firsts is all = record {
-  longer = λ element card at. let same : Some told.Sequence ≡ Some told.Prod = sym (ap (option_map kind_of) at) ∙ is in absurd (cc);
+  longer = λ kind element card at. absurd (no_container kind (ap is_container (sym (kind_same (node_at checked.rules node) kind element card told.Prod at is))));
   firsts = all;
 }
 

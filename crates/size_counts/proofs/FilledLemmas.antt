@@ -1,5 +1,5 @@
 -- Tables that are filled size by size, and what they say once they are full.
-use Rattle.std.proofs.Common.{◌≡◌, ◌⊎◌, ℕ, zero, suc, ◌+◌, ◌-◌, ◌<◌, ◌≤◌, min, Bool, true, cond, List, [], ◌∷◌, ◌++◌, length, find, get_or, Option, Some, None, slice_get, unwrap_or, Result, Ok, Err, refl, sym, ap, ◌∙◌, subst, inl, inr, arith, IsTrue}
+use Rattle.std.proofs.Common.{◌≡◌, ◌⊎◌, ℕ, zero, suc, ◌+◌, ◌-◌, ◌/◌, ◌<◌, ◌≤◌, min, Bool, true, cond, List, [], ◌∷◌, ◌++◌, length, find, get_or, Option, Some, None, slice_get, unwrap_or, Result, Ok, Err, refl, sym, ap, ◌∙◌, subst, inl, inr, arith, IsTrue}
 use Rattle.std.specs.Option.{option_map, option_map_or, option_and_then}
 use Rattle.std.specs.Prelude.{IfSome}
 use Rattle.std.specs.Result.{IfErr, IsErrAnd}
@@ -10,17 +10,18 @@ use Rattle.lists.proofs.Positions.{slice_some}
 use Rattle.spec_syntax.specs.Expression as expr
 use Rattle.spec_syntax.specs.Expression.{Expression, Expressions}
 use Rattle.spec_syntax.specs.declared.expr.Card.{Card}
-use Rattle.spec_syntax.specs.declared.expr.Kind.TheVariants as kind
+use Rattle.spec_syntax.specs.declared.expr.Kind.{Kind}
+use Rattle.spec_syntax.specs.declared.expr.Kind.TheVariants as kinds
 use Rattle.spec_syntax.specs.Card.{is_within}
 use Rattle.spec_syntax.proofs.NodesLemmas.{in_nodes, right_node_is}
 use Rattle.well_founded.specs.declared.node.NodeKind.TheVariants as told
-use Rattle.well_founded.specs.NodeKinds.{kind_of}
+use Rattle.well_founded.specs.NodeKinds.{kind_of, container, is_container}
 use Rattle.well_founded.specs.WellFounded.{IsWellFounded}
 use Rattle.listing_laws.specs.Numbers.{one_at}
 use Rattle.size_counts.specs.declared.sums.Ways.{Ways}
 use Rattle.size_counts.specs.declared.sums.Ways.TheVariants.{Labelled, Unlabelled}
 use Rattle.size_counts.specs.Ways.{CanSplit}
-use Rattle.spec_syntax.specs.Rules.{all_nodes, are_sequences, is_spec, right_side, rule_name, symbol}
+use Rattle.spec_syntax.specs.Rules.{all_nodes, is_spec, right_side, rule_name, symbol}
 use Rattle.spec_syntax.proofs.RuleNames.{symbol_own}
 use Rattle.std.proofs.Math.Dec.{eqb-suc-zero}
 use Rattle.spec_syntax.specs.Nodes.{node_at, card_at, children_at, arguments_of, card_of, right_node}
@@ -35,16 +36,20 @@ use Rattle.size_counts.specs.declared.tables.Tables.{Tables}
 use Rattle.size_counts.specs.declared.counted.Counted.TheInside.{Inside}
 use Rattle.size_counts.specs.Reached.{AreReached, IsReached}
 use Rattle.size_counts.specs.Numbers.{NumbersSay, numbers_at, suffix_number, list_number, most_components, numbers_of_size, is_large_spot, place_of, first_large}
+use Rattle.listing_laws.specs.ContainersRecur.{of_components}
+use Rattle.size_counts.specs.Components.{in_row}
 use Rattle.size_counts.specs.Tables.{Layer, cell}
 use Rattle.size_counts.specs.Told.{values, IsLayer, AreTold}
-use Rattle.size_counts.specs.CountedView.{Counts, IsReachedIn, FaultSays, number_of, suffix_of, lists_of}
+use Rattle.size_counts.specs.CountedView.{Counts, IsReachedIn, FaultSays, number_of, suffix_of, lists_of, sets_of, cycles_of, with_exactly}
 use Rattle.size_counts.specs.Filled.{large_at, FaultAt, IsFilledTo, counts_of, IsFull}
-use Rattle.size_counts.proofs.Law.{recur}
+use Rattle.size_counts.proofs.Law.{recur, counted, containers}
 use Rattle.size_counts.proofs.ReachedLemmas.{reached_closed, at_read}
-use Rattle.size_counts.proofs.TableLemmas.{suffix_value, list_value, no_list_value}
-use Rattle.size_counts.proofs.ListLemmas.{most_le}
+use Rattle.size_counts.proofs.TableLemmas.{suffix_value}
+use Rattle.size_counts.proofs.ListLemmas.{most_le, container_there, kind_same}
+use Rattle.size_counts.proofs.FillLemmas.{kind_is}
+use Rattle.size_counts.proofs.Containers.{divided, in_row_none, cycle_lists, row_value, no_row_value}
 use Rattle.size_counts.proofs.SuffixLemmas.{arguments_count}
-use Rattle.size_counts.proofs.CountLemmas.{kind_here, prod_there, sequence_there}
+use Rattle.size_counts.proofs.CountLemmas.{kind_here, prod_there}
 use Rattle.size_counts.proofs.LayerLemmas.{told_more, none_more, first_after}
 
 pub if_err : {T E : Type 0} (result : Result T E) (x : E) (P : E → Type 0) → IsErrAnd result (λ y. y ≡ x) → P x → IfErr result P
@@ -84,10 +89,9 @@ filled_none tables told empty = record { grammar_kept = refl; marks_kept = refl;
 
 -- ---- a class
 
-pub told_start : (checked : Checked) (number : ℕ) (marks : List Bool) (layers : List Layer) → IsChecked checked → IsTrue (are_sequences checked.rules) → AreReached checked.rules number marks → layers ≡ [] → AreTold checked marks layers
-told_start checked number marks layers is_checked sequences reached empty = subst (λ (all : List Layer). AreTold checked marks all) (sym empty) (record {
+pub told_start : (checked : Checked) (number : ℕ) (marks : List Bool) (layers : List Layer) → IsChecked checked → AreReached checked.rules number marks → layers ≡ [] → AreTold checked marks layers
+told_start checked number marks layers is_checked reached empty = subst (λ (all : List Layer). AreTold checked marks all) (sym empty) (record {
   is_checked = is_checked;
-  sequences = sequences;
   for_each = reached.for_each;
   closed = reached_closed checked.rules number marks reached;
   layer_is = λ m layer there. absurd (let e : ◌≡◌ {A = Option Layer} None (Some layer) = there in cc);
@@ -141,10 +145,10 @@ pub can_split_none : (ways : Ways) → CanSplit ways 0
 can_split_none (Labelled greatest) = omega arith
 can_split_none Unlabelled = tt
 
--- a list of c components is there, or there are fewer atoms than components
-list_value_any : (g : Grammar) (element : Expression) (card : Card) (m c : ℕ) → IsTrue (is_spec g.rules) → IsWellFounded g → IsIn (expr.Many kind.Sequence element card) (all_nodes g.rules) → 1 ≤ c → is_within card.high c ≡ true
-    → unwrap_or (slice_get (values (numbers_at g (expr.Many kind.Sequence element card) m)) c) 0 ≡ list_number g element c m
-list_value_any g element card m c spec well_founded inside low high = by (cases_lt m c)
+-- a number of containers of c components is there, or there are fewer atoms than components
+row_value_any : (g : Grammar) (kind : Kind) (element : Expression) (card : Card) (m c : ℕ) → IsTrue (is_spec g.rules) → IsWellFounded g → IsIn (expr.Many kind element card) (all_nodes g.rules) → 1 ≤ c → is_within card.high c ≡ true
+    → unwrap_or (slice_get (values (numbers_at g (expr.Many kind element card) m)) c) 0 ≡ in_row (container kind) c (of_components g kind element c m)
+row_value_any g kind element card m c spec well_founded inside low high = by (cases_lt m c)
   where
     most : c ≤ m → c ≤ most_components card m
     most le = here card.high high
@@ -153,9 +157,24 @@ list_value_any g element card m c spec well_founded inside low high = by (cases_
         here None is = omega arith
         here (Some high) is = omega (arith, leb-true c high is)
 
-    by : (m < c) ⊎ (c ≤ m) → unwrap_or (slice_get (values (numbers_at g (expr.Many kind.Sequence element card) m)) c) 0 ≡ list_number g element c m
-    by (inl few) = ap (λ (found : Option ℕ). unwrap_or found 0) (no_list_value g element card m c (omega (arith, few, most_le card m))) ∙ sym (recur.few g element card c m spec well_founded inside few)
-    by (inr le) = ap (λ (found : Option ℕ). unwrap_or found 0) (list_value g element card m c low (most le))
+    by : (m < c) ⊎ (c ≤ m) → unwrap_or (slice_get (values (numbers_at g (expr.Many kind element card) m)) c) 0 ≡ in_row (container kind) c (of_components g kind element c m)
+    by (inl few) =
+        ap (λ (found : Option ℕ). unwrap_or found 0) (no_row_value g element card spec well_founded kind m c (omega (arith, few, most_le card m)))
+        ∙ sym (ap (in_row (container kind) c) (counted.few g kind element card c m spec well_founded inside few) ∙ in_row_none kind c)
+    by (inr le) = ap (λ (found : Option ℕ). unwrap_or found 0) (row_value g element card spec well_founded kind m c low (most le) inside)
+
+-- a container of a known kind
+kind_there : (found : Option Expression) (known : Kind) → option_map kind_of found ≡ Some (container known) → (element : Expression) × (card : Card) × (found ≡ Some (expr.Many known element card))
+kind_there found known is =
+    let there = container_there found (ap (option_map is_container) is ∙ ap Some (is_one known)) in
+    let same : there.0 ≡ known = kind_is there.0 known (sym (kind_same found there.0 there.1 there.2 (container known) there.3 is)) in
+    (there.1, there.2, there.3 ∙ ap (λ (k : Kind). Some (expr.Many k there.1 there.2)) same)
+  where
+    is_one : (kind : Kind) → is_container (container kind) ≡ true
+    is_one kinds.Sequence = refl
+    is_one kinds.Set = refl
+    is_one kinds.PowerSet = refl
+    is_one kinds.Cycle = refl
 
 -- the same by what is read
 module _ (counts : Counts) (a : Inside) (full : IsFull a) (same : counts ≡ counts_of a) where
@@ -204,36 +223,87 @@ module _ (counts : Counts) (a : Inside) (full : IsFull a) (same : counts ≡ cou
           ∙ ap (λ (some : Counts). suffix_of some node i m) (sym same)
 
   -- of a Sequence the lists of c components
-  pub read_lists : (node c m value : ℕ) (layer : Layer) → IsReachedIn counts node → m ≤ counts.size → option_map kind_of (node_at counts.checked.rules node) ≡ Some told.Sequence → 1 ≤ c
+  -- a number of a row
+  read_row : (node c m value : ℕ) (layer : Layer) (kind : Kind) (element : Expression) (card : Card) → IsReachedIn counts node → m ≤ counts.size → node_at a.tables.grammar.rules node ≡ Some (expr.Many kind element card) → 1 ≤ c
+      → ((card : Card) → card_at counts.checked.rules node ≡ Some card → is_within card.high c ≡ true) → layer ≡ get_or a.tables.layers.items m layer → value ≡ cell layer node c
+      → value ≡ in_row (container kind) c (of_components (grammar a.tables.grammar) kind element c m)
+  read_row node c m value layer kind element card reached within at low high is cell_is =
+      let card_here : card_at counts.checked.rules node ≡ Some card = subst (λ (some : Counts). card_at some.checked.rules node ≡ Some card) (sym same) (ap (option_and_then card_of) at) in
+      cell_is ∙ cell_at a full node m c (expr.Many kind element card) layer (read_marked node reached) at (read_layer m layer within is)
+      ∙ row_value_any (grammar a.tables.grammar) kind element card m c full.told.is_checked.spec full.told.is_checked.well_founded (in_nodes a.tables.grammar.rules node _ at) low (high card card_here)
+
+  read_kind : (node : ℕ) (known : Kind) → option_map kind_of (node_at counts.checked.rules node) ≡ Some (container known)
+      → (element : Expression) × (card : Card) × (node_at a.tables.grammar.rules node ≡ Some (expr.Many known element card))
+  read_kind node known is =
+      kind_there (node_at a.tables.grammar.rules node) known (subst (λ (some : Counts). option_map kind_of (node_at some.checked.rules node) ≡ Some (container known)) same is)
+
+  lists_are : (node c m : ℕ) (kind : Kind) (element : Expression) (card : Card) → node_at a.tables.grammar.rules node ≡ Some (expr.Many kind element card)
+      → of_components (grammar a.tables.grammar) kinds.Sequence element c m ≡ lists_of counts node c m
+  lists_are node c m kind element card at =
+      sym (ap (λ (some : Option Expression). option_map_or (λ element. list_number (grammar a.tables.grammar) element c m) (slice_get (option_map_or arguments_of some []) 0) 0) at)
+      ∙ ap (λ (some : Counts). lists_of some node c m) (sym same)
+
+  sets_are : (node c m : ℕ) (kind : Kind) (element : Expression) (card : Card) → node_at a.tables.grammar.rules node ≡ Some (expr.Many kind element card)
+      → of_components (grammar a.tables.grammar) kind element c m ≡ sets_of counts node c m
+  sets_are node c m kind element card at =
+      sym (ap (λ (some : Option Expression). option_map_or (λ e. number (grammar a.tables.grammar) (with_exactly c e) m) some 0) at) ∙ ap (λ (some : Counts). sets_of some node c m) (sym same)
+
+  pub read_lists : (node c m value : ℕ) (layer : Layer) → IsReachedIn counts node → m ≤ counts.size
+      → (option_map kind_of (node_at counts.checked.rules node) ≡ Some told.Sequence) ⊎ (option_map kind_of (node_at counts.checked.rules node) ≡ Some told.Cycle) → 1 ≤ c
       → ((card : Card) → card_at counts.checked.rules node ≡ Some card → is_within card.high c ≡ true) → layer ≡ get_or a.tables.layers.items m layer → value ≡ cell layer node c → value ≡ lists_of counts node c m
-  read_lists node c m value layer reached within is_sequence low high is cell_is = by (sequence_there (node_at a.tables.grammar.rules node) kind_is)
-    where
-      marked : IsMarked a.tables.marks.items node
-      marked = read_marked node reached
+  read_lists node c m value layer reached within (inl sequence) low high is cell_is =
+      let there = read_kind node kinds.Sequence sequence in
+      read_row node c m value layer kinds.Sequence there.0 there.1 reached within there.2 low high is cell_is ∙ lists_are node c m kinds.Sequence there.0 there.1 there.2
+  read_lists node c m value layer reached within (inr cycle) low high is cell_is =
+      let there = read_kind node kinds.Cycle cycle in
+      read_row node c m value layer kinds.Cycle there.0 there.1 reached within there.2 low high is cell_is
+      ∙ sym (cycle_lists (grammar a.tables.grammar) there.0 there.1 full.told.is_checked.spec full.told.is_checked.well_founded c m low (in_nodes a.tables.grammar.rules node _ there.2))
+      ∙ lists_are node c m kinds.Cycle there.0 there.1 there.2
 
-      kind_is : option_map kind_of (node_at a.tables.grammar.rules node) ≡ Some told.Sequence
-      kind_is = subst (λ (some : Counts). option_map kind_of (node_at some.checked.rules node) ≡ Some told.Sequence) same is_sequence
+  pub read_no_lists : (node m value : ℕ) → (option_map kind_of (node_at counts.checked.rules node) ≡ Some told.Sequence) ⊎ (option_map kind_of (node_at counts.checked.rules node) ≡ Some told.Cycle)
+      → value ≡ one_at 0 m → value ≡ lists_of counts node 0 m
+  read_no_lists node m value (inl sequence) is =
+      let there = read_kind node kinds.Sequence sequence in
+      is ∙ sym (recur.no_lists (grammar a.tables.grammar) there.0 there.1 m full.told.is_checked.spec full.told.is_checked.well_founded (in_nodes a.tables.grammar.rules node _ there.2))
+      ∙ lists_are node 0 m kinds.Sequence there.0 there.1 there.2
+  read_no_lists node m value (inr cycle) is =
+      let there = read_kind node kinds.Cycle cycle in
+      is ∙ sym (containers.no_lists (grammar a.tables.grammar) there.0 there.1 m full.told.is_checked.spec full.told.is_checked.well_founded (in_nodes a.tables.grammar.rules node _ there.2))
+      ∙ lists_are node 0 m kinds.Cycle there.0 there.1 there.2
 
-      by : (element : Expression) × (card : Card) × (node_at a.tables.grammar.rules node ≡ Some (expr.Many kind.Sequence element card)) → value ≡ lists_of counts node c m
-      by found =
-          let card_here : card_at counts.checked.rules node ≡ Some found.1 = subst (λ (some : Counts). card_at some.checked.rules node ≡ Some found.1) (sym same) (ap (option_and_then card_of) found.2) in
-          let admitted : is_within found.1.high c ≡ true = high found.1 card_here in
-          cell_is ∙ cell_at a full node m c (expr.Many kind.Sequence found.0 found.1) layer marked found.2 (read_layer m layer within is)
-          ∙ list_value_any (grammar a.tables.grammar) found.0 found.1 m c full.told.is_checked.spec full.told.is_checked.well_founded (in_nodes a.tables.grammar.rules node _ found.2) low admitted
-          ∙ sym (ap (λ (some : Option Expression). option_map_or (λ element. list_number (grammar a.tables.grammar) element c m) (slice_get (option_map_or arguments_of some []) 0) 0) found.2)
-          ∙ ap (λ (some : Counts). lists_of some node c m) (sym same)
+  pub read_sets : (node c m value : ℕ) (layer : Layer) → IsReachedIn counts node → m ≤ counts.size
+      → (option_map kind_of (node_at counts.checked.rules node) ≡ Some told.Set) ⊎ (option_map kind_of (node_at counts.checked.rules node) ≡ Some told.PowerSet) → 1 ≤ c
+      → ((card : Card) → card_at counts.checked.rules node ≡ Some card → is_within card.high c ≡ true) → layer ≡ get_or a.tables.layers.items m layer → value ≡ cell layer node c
+      → value / c ≡ sets_of counts node c m
+  read_sets node c m value layer reached within (inl set) low high is cell_is =
+      let there = read_kind node kinds.Set set in
+      ap (λ (k : ℕ). k / c) (read_row node c m value layer kinds.Set there.0 there.1 reached within there.2 low high is cell_is)
+      ∙ divided c (of_components (grammar a.tables.grammar) kinds.Set there.0 c m) low ∙ sets_are node c m kinds.Set there.0 there.1 there.2
+  read_sets node c m value layer reached within (inr set) low high is cell_is =
+      let there = read_kind node kinds.PowerSet set in
+      ap (λ (k : ℕ). k / c) (read_row node c m value layer kinds.PowerSet there.0 there.1 reached within there.2 low high is cell_is)
+      ∙ divided c (of_components (grammar a.tables.grammar) kinds.PowerSet there.0 c m) low ∙ sets_are node c m kinds.PowerSet there.0 there.1 there.2
 
-  pub read_no_lists : (node m value : ℕ) → IsReachedIn counts node → option_map kind_of (node_at counts.checked.rules node) ≡ Some told.Sequence → value ≡ one_at 0 m → value ≡ lists_of counts node 0 m
-  read_no_lists node m value reached is_sequence is = by (sequence_there (node_at a.tables.grammar.rules node) kind_is)
-    where
-      kind_is : option_map kind_of (node_at a.tables.grammar.rules node) ≡ Some told.Sequence
-      kind_is = subst (λ (some : Counts). option_map kind_of (node_at some.checked.rules node) ≡ Some told.Sequence) same is_sequence
+  pub read_no_sets : (node m value : ℕ) → (option_map kind_of (node_at counts.checked.rules node) ≡ Some told.Set) ⊎ (option_map kind_of (node_at counts.checked.rules node) ≡ Some told.PowerSet)
+      → value ≡ one_at 0 m → value ≡ sets_of counts node 0 m
+  read_no_sets node m value (inl set) is =
+      let there = read_kind node kinds.Set set in
+      is ∙ sym (containers.no_sets (grammar a.tables.grammar) there.0 there.1 m full.told.is_checked.spec full.told.is_checked.well_founded (in_nodes a.tables.grammar.rules node _ there.2))
+      ∙ sets_are node 0 m kinds.Set there.0 there.1 there.2
+  read_no_sets node m value (inr set) is =
+      let there = read_kind node kinds.PowerSet set in
+      is ∙ sym (containers.no_power_sets (grammar a.tables.grammar) there.0 there.1 m full.told.is_checked.spec full.told.is_checked.well_founded (in_nodes a.tables.grammar.rules node _ there.2))
+      ∙ sets_are node 0 m kinds.PowerSet there.0 there.1 there.2
 
-      by : (element : Expression) × (card : Card) × (node_at a.tables.grammar.rules node ≡ Some (expr.Many kind.Sequence element card)) → value ≡ lists_of counts node 0 m
-      by found =
-          is ∙ sym (recur.no_lists (grammar a.tables.grammar) found.0 found.1 m full.told.is_checked.spec full.told.is_checked.well_founded (in_nodes a.tables.grammar.rules node _ found.2))
-          ∙ sym (ap (λ (some : Option Expression). option_map_or (λ element. list_number (grammar a.tables.grammar) element 0 m) (slice_get (option_map_or arguments_of some []) 0) 0) found.2)
-          ∙ ap (λ (some : Counts). lists_of some node 0 m) (sym same)
+  pub read_cycles : (node c m value : ℕ) (layer : Layer) → IsReachedIn counts node → m ≤ counts.size → option_map kind_of (node_at counts.checked.rules node) ≡ Some told.Cycle → 1 ≤ c
+      → ((card : Card) → card_at counts.checked.rules node ≡ Some card → is_within card.high c ≡ true) → layer ≡ get_or a.tables.layers.items m layer → value ≡ cell layer node c
+      → value / c ≡ cycles_of counts node c m
+  read_cycles node c m value layer reached within cycle low high is cell_is =
+      let there = read_kind node kinds.Cycle cycle in
+      ap (λ (k : ℕ). k / c) (read_row node c m value layer kinds.Cycle there.0 there.1 reached within there.2 low high is cell_is)
+      ∙ divided c (of_components (grammar a.tables.grammar) kinds.Cycle there.0 c m) low
+      ∙ sym (ap (λ (some : Option Expression). option_map_or (λ element. of_components (grammar a.tables.grammar) kinds.Cycle element c m) (slice_get (option_map_or arguments_of some []) 0) 0) there.2)
+      ∙ ap (λ (some : Counts). cycles_of some node c m) (sym same)
 
 pub zero_size : (m : ℕ) → m ≡ 0 → 1 ≡ one_at 0 m
 zero_size m same = ap (one_at 0) (sym same)

@@ -251,7 +251,6 @@ pub told_more : (checked : Checked) (marks : List Bool) (layers more : List Laye
     → more ≡ layers ++ layer ∷ [] → AreTold checked marks more
 told_more checked marks layers more layer m told filled is pushed = subst (λ (all : List Layer). AreTold checked marks all) (sym pushed) (record {
   is_checked = told.is_checked;
-  sequences = told.sequences;
   for_each = told.for_each;
   closed = told.closed;
   layer_is = λ size other there. elim (pushed_at layers layer size other there) [

@@ -2,8 +2,11 @@ pub mod SumLemmas
 pub mod ReachedLemmas
 pub mod Law
 pub mod TableLemmas
+pub mod Containers
 pub mod ListLemmas
 pub mod SuffixLemmas
+pub mod MultisetLemmas
+pub mod SubsetLemmas
 pub mod CountLemmas
 pub mod TurnLemmas
 pub mod FillLemmas
@@ -13,3 +16,4 @@ pub mod SpotLemmas
 pub mod FilledLemmas
 pub mod SaysLaws
 pub mod PlaceWithin
+pub mod SharedLemmas

@@ -3,11 +3,13 @@ use Rattle.std.proofs.Common.{◌≡◌, ℕ, zero, suc, ◌+◌, ◌-◌, ◌<�
 use Rattle.std.specs.Option.{option_map}
 use Rattle.std.specs.List.{range_with_len}
 use Rattle.std.proofs.lemmas.List.{length_push}
+use Rattle.std.proofs.lemmas.List.FromFn.{length-map-range_with_len}
 use Rattle.std.proofs.lemmas.Option.{slice_get_within}
 use Rattle.lists.proofs.Places.{pushed_at}
 use Rattle.lists.proofs.Positions.{slice_some}
 use Rattle.spec_syntax.specs.declared.expr.Card.{Card}
-use Rattle.spec_syntax.specs.declared.expr.Kind.TheVariants as kind
+use Rattle.spec_syntax.specs.declared.expr.Kind.{Kind}
+use Rattle.spec_syntax.specs.declared.expr.Kind.TheVariants as kinds
 use Rattle.spec_syntax.specs.Expression as expr
 use Rattle.spec_syntax.specs.Expression.{Expression, Expressions, expression_list}
 use Rattle.spec_syntax.specs.Rules.{all_nodes}
@@ -18,21 +20,23 @@ use Rattle.graphs.specs.Graph.{IsMarked}
 use Rattle.struct_model.specs.Bounded.{number}
 use Rattle.well_founded.specs.declared.node.NodeKind.{NodeKind}
 use Rattle.well_founded.specs.declared.node.NodeKind.TheVariants as told
-use Rattle.well_founded.specs.NodeKinds.{kind_of}
+use Rattle.well_founded.specs.NodeKinds.{kind_of, container}
 use Rattle.well_founded.specs.Checked.{Checked, grammar}
 use Rattle.splits.specs.Capped.{Tells}
+use Rattle.listing_laws.specs.ContainersRecur.{of_components}
 use Rattle.size_counts.specs.declared.tables.Tables.{Tables}
-use Rattle.size_counts.specs.Numbers.{Numbered, numbers_at, others_at, list_number, suffix_number, most_components}
+use Rattle.size_counts.specs.Numbers.{Numbered, numbers_at, others_at, suffix_number, most_components}
+use Rattle.size_counts.specs.Components.{of_none, in_row}
 use Rattle.size_counts.specs.Tables.{Layer}
 use Rattle.size_counts.specs.Told.{values, AreTold, TellAll, TellNow}
 use Rattle.size_counts.specs.Suffixes.{ArgumentsTold, SuffixesTold, NoneBelow}
 use Rattle.size_counts.specs.Turns.{LongerTold, BesideTold, AreRows}
-use Rattle.size_counts.proofs.Law.{recur}
 use Rattle.size_counts.proofs.ReachedLemmas.{children_here}
-use Rattle.size_counts.proofs.TableLemmas.{tell_none, tell_made}
-use Rattle.size_counts.proofs.ListLemmas.{tells_by, card_same, element_marked, element_there}
+use Rattle.size_counts.proofs.TableLemmas.{tell_none, tell_made, made_at}
+use Rattle.size_counts.proofs.ListLemmas.{tells_by, card_same, kind_same, element_marked, element_there}
 use Rattle.size_counts.proofs.SuffixLemmas.{child_marked, arguments_count, with_firsts}
-use Rattle.size_counts.proofs.CountLemmas.{prod_found}
+use Rattle.size_counts.proofs.CountLemmas.{prod_found, components_are}
+use Rattle.size_counts.proofs.Containers.{row_value, others_count}
 
 pub tell_first : (told : List (Option ℕ)) (numbers : List ℕ) (one : Option ℕ) (n : ℕ) → Tells one n → TellAll told numbers → TellAll (one ∷ told) (n ∷ numbers)
 tell_first told numbers one n is all = record { for_each = ap suc all.for_each; each = each }
@@ -104,44 +108,60 @@ suffixes_all g es m earlier reversed made all same so_far =
     subst (λ (numbers : List ℕ). TellAll made numbers)
     (ap (λ (n : ℕ). map (λ i. suffix_number g (expression_list es) i m) (range_with_len 2 n)) (same ∙ ap (λ (n : ℕ). n - 1) all.for_each) ∙ sym (values_made _ (range_with_len 2 (length (expression_list es) - 1)))) so_far
 
--- ---- a Sequence
+-- ---- a container
 
-module _ (checked : Checked) (marks : List Bool) (layers : List Layer) (told_tables : AreTold checked marks layers) (m node : ℕ) (now : List (Option ℕ)) (element : Expression) (card read : Card)
-    (now_told : TellNow checked marks m (length (all_nodes checked.rules)) now) (marked : IsMarked marks node) (at : node_at checked.rules node ≡ Some (expr.Many kind.Sequence element card))
-    (card_is : card_at checked.rules node ≡ Some read) (longer : List (Option ℕ)) (more : LongerTold checked node m longer) where
-  bound : most_components read m ≡ most_components card m
-  bound = ap (λ (k : Card). most_components k m) (card_same (node_at checked.rules node) element card read at card_is)
-
-  lists_from : (most : ℕ) → most_components card m ≡ most → TellAll longer (map (λ c. list_number (grammar checked) element c m) (range_with_len 2 (most - 1)))
-  lists_from most is = subst (λ (n : ℕ). TellAll longer (map (λ c. list_number (grammar checked) element c m) (range_with_len 2 (n - 1)))) is (more element card at)
-
-  to_values : (made : List (Option ℕ)) (most : ℕ) → most_components card m ≡ most → TellAll made (map (λ c. list_number (grammar checked) element c m) (range_with_len 1 most))
-      → TellAll made (values (others_at (grammar checked) (expr.Many kind.Sequence element card) m))
-  to_values made most is all =
-      subst (λ (numbers : List ℕ). TellAll made numbers)
-      (ap (λ (n : ℕ). map (λ c. list_number (grammar checked) element c m) (range_with_len 1 n)) (sym is) ∙ sym (values_made _ (range_with_len 1 (most_components card m)))) all
-
-  pub lists_with : (child : ℕ) (one : Option ℕ) → 0 < most_components read m → slice_get (children_at checked.rules node) 0 ≡ Some child
-      → node_at checked.rules child ≡ slice_get (arguments_at checked.rules node) 0 → slice_get now child ≡ Some one
-      → TellAll (one ∷ longer) (values (others_at (grammar checked) (expr.Many kind.Sequence element card) m))
-  lists_with child one some child_is child_at now_at = by (most_components card m) refl
+module _ (checked : Checked) (marks : List Bool) (layers : List Layer) (told_tables : AreTold checked marks layers) (m node : ℕ) (now : List (Option ℕ)) (kind : Kind) (element : Expression) (card : Card)
+    (now_told : TellNow checked marks m (length (all_nodes checked.rules)) now) (marked : IsMarked marks node) (at : node_at checked.rules node ≡ Some (expr.Many kind element card))
+    (longer : List (Option ℕ)) (more : LongerTold checked node m longer) where
+  -- one number of components more
+  pub components_more : (kind_read : NodeKind) (read : Card) (child earlier : ℕ) (current found one : Option ℕ) (made after : List (Option ℕ)) → option_map kind_of (node_at checked.rules node) ≡ Some kind_read
+      → card_at checked.rules node ≡ Some read → slice_get (children_at checked.rules node) 0 ≡ Some child → node_at checked.rules child ≡ slice_get (arguments_at checked.rules node) 0 → slice_get now child ≡ Some current
+      → earlier < most_components read m → (earlier + 1 ≡ 0 → Tells found (of_none kind_read m)) → (earlier + 1 ≡ 1 → found ≡ current) → (2 ≤ earlier + 1 → slice_get longer (earlier + 1 - 2) ≡ Some found)
+      → ((n : ℕ) → Tells found n → Tells one (in_row kind_read (earlier + 1) n)) → after ≡ made ++ one ∷ []
+      → TellAll made (map (λ c. in_row kind_read c (of_components (grammar checked) kind element c m)) (range_with_len 1 earlier))
+      → TellAll after (map (λ c. in_row kind_read c (of_components (grammar checked) kind element c m)) (range_with_len 1 (earlier + 1)))
+  components_more kind_read read child earlier current found one made after kind_is card_is child_is child_at now_at within none first others row pushed so_far =
+      subst (λ (items : List (Option ℕ)). TellAll items (map (λ c. in_row kind_read c (of_components (grammar checked) kind element c m)) (range_with_len 1 (earlier + 1)))) (sym pushed)
+      (tell_made (λ c. in_row kind_read c (of_components (grammar checked) kind element c m)) made one 1 earlier (earlier + 1) (omega arith) so_far
+      (row (of_components (grammar checked) kind element (earlier + 1) m)
+      (components_are checked told_tables.is_checked node m now kind element card at (earlier + 1) kind_read found current longer (kind_same (node_at checked.rules node) kind element card kind_read at kind_is)
+      (omega (arith, within, bound)) more none first others (λ one_is. element_now))))
     where
-      first : Tells one (list_number (grammar checked) element 1 m)
-      first = tells_by one _ _ (sym (recur.one_list (grammar checked) element card m told_tables.is_checked.spec told_tables.is_checked.well_founded (in_nodes checked.rules node _ at)))
-          (all_told checked marks layers told_tables m child now element one now_told (element_marked checked marks layers told_tables node element card marked at child child_is)
-          (element_there checked marks layers told_tables node element card marked at child child_at) now_at)
+      bound : most_components read m ≡ most_components card m
+      bound = ap (λ (k : Card). most_components k m) (card_same (node_at checked.rules node) kind element card read at card_is)
 
-      by : (most : ℕ) → most_components card m ≡ most → TellAll (one ∷ longer) (values (others_at (grammar checked) (expr.Many kind.Sequence element card) m))
-      by zero is = absurd (omega (arith, bound))
-      by (suc j) is = to_values (one ∷ longer) (suc j) is
-          (tell_first longer (map (λ c. list_number (grammar checked) element c m) (range_with_len 2 j)) one (list_number (grammar checked) element 1 m) first
-          (subst (λ (n : ℕ). TellAll longer (map (λ c. list_number (grammar checked) element c m) (range_with_len 2 n))) (less j) (lists_from (suc j) is)))
+      element_now : Tells current (number (grammar checked) element m)
+      element_now = all_told checked marks layers told_tables m child now element current now_told (element_marked checked marks layers told_tables node kind element card marked at child child_is)
+          (element_there checked marks layers told_tables node kind element card marked at child child_at) now_at
+
+  pub components_all : (kind_read : NodeKind) (read : Card) (earlier : ℕ) (made : List (Option ℕ)) → option_map kind_of (node_at checked.rules node) ≡ Some kind_read
+      → card_at checked.rules node ≡ Some read → earlier ≡ most_components read m
+      → TellAll made (map (λ c. in_row kind_read c (of_components (grammar checked) kind element c m)) (range_with_len 1 earlier))
+      → TellAll made (values (others_at (grammar checked) (expr.Many kind element card) m))
+  components_all kind_read read earlier made kind_is card_is end so_far = record {
+    for_each = so_far.for_each ∙ length-map-range_with_len (λ c. in_row kind_read c (of_components (grammar checked) kind element c m)) 1 earlier ∙ most
+        ∙ sym (others_count (grammar checked) element card kind m);
+    each = λ i n one made_at_i number_at. by i n one made_at_i number_at (slice_get_within made i one made_at_i);
+  }
+    where
+      most : earlier ≡ most_components card m
+      most = end ∙ ap (λ (k : Card). most_components k m) (card_same (node_at checked.rules node) kind element card read at card_is)
+
+      count : length made ≡ earlier
+      count = so_far.for_each ∙ length-map-range_with_len (λ c. in_row kind_read c (of_components (grammar checked) kind element c m)) 1 earlier
+
+      by : (i n : ℕ) (one : Option ℕ) → slice_get made i ≡ Some one → slice_get (values (others_at (grammar checked) (expr.Many kind element card) m)) i ≡ Some n → i < length made → Tells one n
+      by i n one made_at_i number_at within =
+          let there : Some (in_row (container kind) (suc i) (of_components (grammar checked) kind element (suc i) m)) ≡ Some n =
+          sym (row_value (grammar checked) element card told_tables.is_checked.spec told_tables.is_checked.well_founded kind m (suc i) (omega arith) (omega (arith, within, count, most)) (in_nodes checked.rules node _ at)) ∙ number_at in
+          let is : in_row (container kind) (suc i) (of_components (grammar checked) kind element (suc i) m) ≡ n = cc in
+          tells_by one _ _
+          (ap (λ (k : ℕ). in_row kind_read k (of_components (grammar checked) kind element k m)) (next i)
+          ∙ ap (λ (k : NodeKind). in_row k (suc i) (of_components (grammar checked) kind element (suc i) m)) (kind_same (node_at checked.rules node) kind element card kind_read at kind_is) ∙ is)
+          (so_far.each i _ one made_at_i (made_at (λ c. in_row kind_read c (of_components (grammar checked) kind element c m)) 1 earlier i (omega (arith, within, count))))
         where
-          less : (j : ℕ) → suc j - 1 ≡ j
-          less j = omega arith
-
-  pub lists_without : most_components read m ≤ 0 → TellAll longer (values (others_at (grammar checked) (expr.Many kind.Sequence element card) m))
-  lists_without none = let is : most_components card m ≡ 0 = omega (arith, bound) in to_values longer 0 is (lists_from 0 is)
+          next : (i : ℕ) → 1 + i ≡ suc i
+          next i = omega arith
 
 -- ---- other nodes
 
@@ -163,10 +183,10 @@ no_others g expr.Atom m is = tell_none
 no_others g (expr.Name name) m is = tell_none
 no_others g (expr.Union es) m is = tell_none
 no_others g (expr.Prod es) m is = absurd (true≢false (sym is))
-no_others g (expr.Many kind.Sequence e card) m is = absurd (true≢false (sym is))
-no_others g (expr.Many kind.Set e card) m is = absurd (true≢false (sym is))
-no_others g (expr.Many kind.PowerSet e card) m is = absurd (true≢false (sym is))
-no_others g (expr.Many kind.Cycle e card) m is = absurd (true≢false (sym is))
+no_others g (expr.Many kinds.Sequence e card) m is = absurd (true≢false (sym is))
+no_others g (expr.Many kinds.Set e card) m is = absurd (true≢false (sym is))
+no_others g (expr.Many kinds.PowerSet e card) m is = absurd (true≢false (sym is))
+no_others g (expr.Many kinds.Cycle e card) m is = absurd (true≢false (sym is))
 
 -- ---- the rows of all nodes
 
@@ -191,9 +211,6 @@ rows_more tables m n rows more one before pushed is is_empty = subst (λ (items 
 -- what a list is made of
 pub first_and_others : (all made start others : List (Option ℕ)) (one : Option ℕ) → all ≡ made ++ others → made ≡ start ++ one ∷ [] → start ≡ [] → all ≡ one ∷ others
 first_and_others all made start others one whole pushed empty = whole ∙ ap (λ (items : List (Option ℕ)). items ++ others) (pushed ∙ ap (λ (items : List (Option ℕ)). items ++ one ∷ []) empty)
-
-pub others_alone : (all made start others : List (Option ℕ)) → all ≡ made ++ others → made ≡ start → start ≡ [] → all ≡ others
-others_alone all made start others whole same empty = whole ∙ ap (λ (items : List (Option ℕ)). items ++ others) (same ∙ empty)
 
 pub tell_all_by : (told other : List (Option ℕ)) (numbers : List ℕ) → told ≡ other → TellAll other numbers → TellAll told numbers
 tell_all_by told other numbers same all = subst (λ (items : List (Option ℕ)). TellAll items numbers) (sym same) all

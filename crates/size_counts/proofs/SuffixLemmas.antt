@@ -21,7 +21,7 @@ use Rattle.graphs.specs.Graph.{IsMarked}
 use Rattle.graphs.proofs.Reached.{marked_within}
 use Rattle.struct_model.specs.Bounded.{number}
 use Rattle.well_founded.specs.Checked.{Checked, grammar}
-use Rattle.listing_laws.specs.Numbers.{joined, one_at}
+use Rattle.listing_laws.specs.Numbers.{ways, joined, one_at}
 use Rattle.splits.specs.Capped.{Tells}
 use Rattle.size_counts.specs.Tables.{Layer, column}
 use Rattle.size_counts.specs.Numbers.{numbers_at, suffix_number}
@@ -56,7 +56,7 @@ again (more_expressions e es) = ap (λ (others : Expressions). more_expressions 
 
 -- a joined number at size 0
 joined_none : (universe : Universe) (first other : ℕ → ℕ) → first 0 * other 0 ≡ 0 → joined universe first other 0 ≡ 0
-joined_none universe first other none = joined_more universe first other 0 0 ∙ product _ _ none
+joined_none universe first other none = joined_more (ways universe 0) first other 0 0 ∙ product _ _ none
   where
     product : (w x : ℕ) → x ≡ 0 → 0 + w * x ≡ 0
     product w x none = subst (λ (k : ℕ). 0 + w * k ≡ 0) (sym none) (omega arith)

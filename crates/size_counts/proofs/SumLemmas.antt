@@ -1,5 +1,5 @@
 -- Steps of the sums over the splits of a size.
-use Rattle.std.proofs.Common.{◌≡◌, ◌⊎◌, ℕ, zero, suc, ◌+◌, ◌-◌, ◌*◌, ◌<◌, ◌≤◌, ◌^◌, List, [], ◌∷◌, map, length, replicate, Option, Some, slice_get, unwrap_or, sym, ap, ◌∙◌, subst, inl, inr, refl, arith}
+use Rattle.std.proofs.Common.{◌≡◌, ◌⊎◌, ℕ, zero, suc, ◌+◌, ◌-◌, ◌*◌, ◌<◌, ◌≤◌, ◌^◌, List, [], ◌∷◌, map, length, replicate, Option, Some, slice_get, sym, ap, ◌∙◌, subst, inl, inr, refl, arith}
 use Rattle.std.specs.Prelude.{Result, Ok, Err}
 use Rattle.std.specs.Result.{IfOk}
 use Rattle.std.specs.List.{sum, range_with_len}
@@ -8,7 +8,7 @@ use Rattle.std.proofs.Math.ListN.{set}
 use Rattle.std.proofs.lemmas.Bool.{cases_lt}
 use Rattle.std.proofs.lemmas.List.{length-set}
 use Rattle.std.proofs.lemmas.List.FromFn.{sum_by-map-range_with_len_more}
-use Rattle.std.proofs.lemmas.Option.{slice_get_past, slice_get_within}
+use Rattle.std.proofs.lemmas.Option.{slice_get_within}
 use Rattle.lists.proofs.Positions.{slice_some}
 use Rattle.spec_syntax.specs.declared.statement.Universe.{Universe}
 use Rattle.listing_laws.specs.Numbers.{ways, joined}
@@ -47,19 +47,19 @@ if_ok (Err e) P Q more is = tt
 -- ---- one sum
 
 -- the splits with a first part below size d alone
-abbrev pub joined_to : Universe → (ℕ → ℕ) → (ℕ → ℕ) → ℕ → ℕ → ℕ
-joined_to universe first other n d = sum (map (λ k. ways universe n k * (first k * other (n - k))) (range_with_len 0 d))
+abbrev pub joined_to : (ℕ → ℕ) → (ℕ → ℕ) → (ℕ → ℕ) → ℕ → ℕ → ℕ
+joined_to weight first other n d = sum (map (λ k. weight k * (first k * other (n - k))) (range_with_len 0 d))
 
-pub joined_more : (universe : Universe) (first other : ℕ → ℕ) (n d : ℕ)
-    → joined_to universe first other n (d + 1) ≡ joined_to universe first other n d + ways universe n d * (first d * other (n - d))
-joined_more universe first other n d = sum_by-map-range_with_len_more (λ (x : ℕ). x) (λ (k : ℕ). ways universe n k * (first k * other (n - k))) 0 d d (omega arith)
+pub joined_more : (weight : ℕ → ℕ) (first other : ℕ → ℕ) (n d : ℕ)
+    → joined_to weight first other n (d + 1) ≡ joined_to weight first other n d + weight d * (first d * other (n - d))
+joined_more weight first other n d = sum_by-map-range_with_len_more (λ (x : ℕ). x) (λ (k : ℕ). weight k * (first k * other (n - k))) 0 d d (omega arith)
 
 -- one more split
-pub joined_step : (universe : Universe) (first other : ℕ → ℕ) (n d : ℕ) (before step after : Option ℕ)
-    → Tells before (joined_to universe first other n d) → Tells step (ways universe n d * (first d * other (n - d)))
-    → ((x y : ℕ) → Tells before x → Tells step y → Tells after (x + y)) → Tells after (joined_to universe first other n (d + 1))
-joined_step universe first other n d before step after one two plus =
-    subst (λ (k : ℕ). Tells after k) (sym (joined_more universe first other n d)) (plus _ _ one two)
+pub joined_step : (weight : ℕ → ℕ) (first other : ℕ → ℕ) (n d : ℕ) (before step after : Option ℕ)
+    → Tells before (joined_to weight first other n d) → Tells step (weight d * (first d * other (n - d)))
+    → ((x y : ℕ) → Tells before x → Tells step y → Tells after (x + y)) → Tells after (joined_to weight first other n (d + 1))
+joined_step weight first other n d before step after one two plus =
+    subst (λ (k : ℕ). Tells after k) (sym (joined_more weight first other n d)) (plus _ _ one two)
 
 -- where one of two numbers is told to be 0, their product is
 pub none_split : (one other : Option ℕ) (w x y : ℕ) → (one ≡ Some 0) ⊎ (other ≡ Some 0) → ProductTold one other x y → Tells (Some 0) (w * (x * y))
@@ -79,24 +79,24 @@ some_split one other product ways_told result w x y not_first not_second times b
 some_split one other product ways_told result w x y not_first not_second times by_ways last (inr none) = absurd (elim (none.0) [ inl first ↦ not_first first | inr second ↦ not_second second ])
 
 -- a way to tell each number of a column
-pub joined_all : (universe : Universe) (first other : ℕ → ℕ) (n d : ℕ) (sum : Option ℕ) → d ≡ n + 1 → Tells sum (joined_to universe first other n d) → Tells sum (joined universe first other n)
-joined_all universe first other n d sum same told = subst (λ (k : ℕ). Tells sum (joined_to universe first other n k)) same told
+pub joined_all : (universe : Universe) (first other : ℕ → ℕ) (n d : ℕ) (sum : Option ℕ) → d ≡ n + 1 → Tells sum (joined_to (ways universe n) first other n d) → Tells sum (joined universe first other n)
+joined_all universe first other n d sum same told = subst (λ (k : ℕ). Tells sum (joined_to (ways universe n) first other n k)) same told
 
 -- ---- sums side by side, by the number of components
 
--- the first n sums have so many times the numbers of the row added to them, and the others are as before
-pub record AreAddedTo (n : ℕ) (before after : List (Option ℕ)) (many : Option ℕ) (row : List ℕ) : Type 0 where
+-- the first n sums have so many times the numbers of rests added to them, and the others are as before
+pub record AreAddedTo (n : ℕ) (before after : List (Option ℕ)) (many : Option ℕ) (rests : ℕ → ℕ) : Type 0 where
   pub for_each : length after ≡ length before
-  pub done : (i : ℕ) (one two : Option ℕ) → i < n → slice_get before i ≡ Some one → slice_get after i ≡ Some two → AddsProduct one two many (unwrap_or (slice_get row (i + 1)) 0)
+  pub done : (i : ℕ) (one two : Option ℕ) → i < n → slice_get before i ≡ Some one → slice_get after i ≡ Some two → AddsProduct one two many (rests i)
   pub left : (i : ℕ) (two : Option ℕ) → n ≤ i → slice_get after i ≡ Some two → slice_get before i ≡ Some two
 
-pub added_none : (before : List (Option ℕ)) (many : Option ℕ) (row : List ℕ) → AreAddedTo 0 before before many row
-added_none before many row = record { for_each = refl; done = λ i one two below. absurd (omega arith); left = λ i two past there. there }
+pub added_none : (before : List (Option ℕ)) (many : Option ℕ) (rests : ℕ → ℕ) → AreAddedTo 0 before before many rests
+added_none before many rests = record { for_each = refl; done = λ i one two below. absurd (omega arith); left = λ i two past there. there }
 
-pub added_more : (n value : ℕ) (before after : List (Option ℕ)) (many current product one : Option ℕ) (row : List ℕ) → AreAddedTo n before after many row
-    → slice_get after n ≡ Some current → slice_get row (n + 1) ≡ Some value → value < 2 ^ 128 → ((x y : ℕ) → Tells many x → Tells (Some value) y → Tells product (x * y))
-    → ((x y : ℕ) → Tells current x → Tells product y → Tells one (x + y)) → AreAddedTo (n + 1) before (set after n one) many row
-added_more n value before after many current product one row added here in_row small product_told sum_told = record {
+pub added_more : (n value : ℕ) (before after : List (Option ℕ)) (many current product one : Option ℕ) (rests : ℕ → ℕ) → AreAddedTo n before after many rests
+    → slice_get after n ≡ Some current → rests n ≡ value → value < 2 ^ 128 → ((x y : ℕ) → Tells many x → Tells (Some value) y → Tells product (x * y))
+    → ((x y : ℕ) → Tells current x → Tells product y → Tells one (x + y)) → AreAddedTo (n + 1) before (set after n one) many rests
+added_more n value before after many current product one rests added here in_row small product_told sum_told = record {
   for_each = length-set after n one ∙ added.for_each;
   done = λ i first two below earlier there. elim (set_at after n i one two there) [
     | inl same ↦ at_n i first two same earlier
@@ -111,81 +111,81 @@ added_more n value before after many current product one row added here in_row s
     sums : AddsProduct current one many value
     sums x w told by_many = sum_told x (w * value) told (product_told w value by_many (refl, small))
 
-    at_n : (i : ℕ) (first two : Option ℕ) → (i ≡ n) × (two ≡ one) → slice_get before i ≡ Some first → AddsProduct first two many (unwrap_or (slice_get row (i + 1)) 0)
+    at_n : (i : ℕ) (first two : Option ℕ) → (i ≡ n) × (two ≡ one) → slice_get before i ≡ Some first → AddsProduct first two many (rests i)
     at_n i first two same earlier x w told by_many =
         let before_it : Some first ≡ Some current = sym earlier ∙ ap (slice_get before) same.0 ∙ added.left n current (omega arith) here in
         let is_current : first ≡ current = cc in
-        let number : unwrap_or (slice_get row (i + 1)) 0 ≡ value = ap (λ (k : ℕ). unwrap_or (slice_get row (k + 1)) 0) same.0 ∙ ap (λ (found : Option ℕ). unwrap_or found 0) in_row in
+        let number : rests i ≡ value = ap rests same.0 ∙ in_row in
         subst (λ (k : ℕ). Tells two (x + w * k)) (sym number)
         (subst (λ (o : Option ℕ). Tells o (x + w * value)) (sym same.1) (sums x w (subst (λ (o : Option ℕ). Tells o x) is_current told) by_many))
 
--- past the end of the row nothing is added
-pub added_all : (n : ℕ) (before after : List (Option ℕ)) (many : Option ℕ) (row : List ℕ) → AreAddedTo n before after many row → (length before ≤ n) ⊎ (length row ≤ n + 1)
-    → (i : ℕ) (one two : Option ℕ) → slice_get before i ≡ Some one → slice_get after i ≡ Some two → AddsProduct one two many (unwrap_or (slice_get row (i + 1)) 0)
-added_all n before after many row added end i one two earlier there = elim (cases_lt i n) [
+-- where there are no more rests, nothing is added
+pub added_all : (n : ℕ) (before after : List (Option ℕ)) (many : Option ℕ) (rests : ℕ → ℕ) → AreAddedTo n before after many rests → (length before ≤ n) ⊎ ((i : ℕ) → n ≤ i → rests i ≡ 0)
+    → (i : ℕ) (one two : Option ℕ) → slice_get before i ≡ Some one → slice_get after i ≡ Some two → AddsProduct one two many (rests i)
+added_all n before after many rests added end i one two earlier there = elim (cases_lt i n) [
   | inl below ↦ added.done i one two below earlier there
   | inr past ↦ beyond past
 ]
   where
-    beyond : n ≤ i → AddsProduct one two many (unwrap_or (slice_get row (i + 1)) 0)
+    beyond : n ≤ i → AddsProduct one two many (rests i)
     beyond past x w told by_many =
-        let none : unwrap_or (slice_get row (i + 1)) 0 ≡ 0 = ap (λ (found : Option ℕ). unwrap_or found 0) (slice_get_past row (i + 1) (elim end [
+        let none : rests i ≡ 0 = elim end [
           | inl all ↦ absurd (omega (arith, slice_get_within before i one earlier, all, past))
-          | inr short ↦ omega (arith, short, past)
-        ])) in
+          | inr short ↦ short i past
+        ] in
         let same : Some one ≡ Some two = sym earlier ∙ added.left i two past there in
         let is_one : one ≡ two = cc in
         let sum : x ≡ x + w * 0 = omega arith in
         subst (λ (k : ℕ). Tells two (x + w * k)) (sym none) (subst (λ (k : ℕ). Tells two k) sum (subst (λ (o : Option ℕ). Tells o x) is_one told))
 
 -- sum number i, from 0, is over the splits with a first part below size d and a list of i + 1 others
-pub record AreSummed (universe : Universe) (first : ℕ → ℕ) (lists : ℕ → ℕ → ℕ) (n d : ℕ) (sums : List (Option ℕ)) : Type 0 where
-  pub each : (i : ℕ) (one : Option ℕ) → slice_get sums i ≡ Some one → Tells one (joined_to universe first (lists (i + 1)) n d)
+pub record AreSummed (weight : ℕ → ℕ) (first : ℕ → ℕ) (lists : ℕ → ℕ → ℕ) (n d : ℕ) (sums : List (Option ℕ)) : Type 0 where
+  pub each : (i : ℕ) (one : Option ℕ) → slice_get sums i ≡ Some one → Tells one (joined_to weight first (lists (i + 1)) n d)
 
 none_first : (w x y : ℕ) → x ≡ 0 → w * (x * y) ≡ 0
 none_first w x y none = ap (λ (k : ℕ). w * (k * y)) none ∙ ap (λ (k : ℕ). w * k) (zero-mul y) ∙ mul-zero w
 
 -- a size that no first part has
-pub summed_pass : (universe : Universe) (first : ℕ → ℕ) (lists : ℕ → ℕ → ℕ) (n d : ℕ) (sums : List (Option ℕ)) → first d ≡ 0 → AreSummed universe first lists n d sums → AreSummed universe first lists n (d + 1) sums
-summed_pass universe first lists n d sums none before = record {
+pub summed_pass : (weight : ℕ → ℕ) (first : ℕ → ℕ) (lists : ℕ → ℕ → ℕ) (n d : ℕ) (sums : List (Option ℕ)) → first d ≡ 0 → AreSummed weight first lists n d sums → AreSummed weight first lists n (d + 1) sums
+summed_pass weight first lists n d sums none before = record {
   each = λ i one there.
-      let product : ways universe n d * (first d * lists (i + 1) (n - d)) ≡ 0 = none_first (ways universe n d) (first d) (lists (i + 1) (n - d)) none in
-      let same : joined_to universe first (lists (i + 1)) n d ≡ joined_to universe first (lists (i + 1)) n (d + 1) = omega (arith, joined_more universe first (lists (i + 1)) n d, product) in
+      let product : weight d * (first d * lists (i + 1) (n - d)) ≡ 0 = none_first (weight d) (first d) (lists (i + 1) (n - d)) none in
+      let same : joined_to weight first (lists (i + 1)) n d ≡ joined_to weight first (lists (i + 1)) n (d + 1) = omega (arith, joined_more weight first (lists (i + 1)) n d, product) in
       subst (λ (k : ℕ). Tells one k) same (before.each i one there);
 }
 
 -- below size 1 there is none
-pub summed_none : (universe : Universe) (first : ℕ → ℕ) (lists : ℕ → ℕ → ℕ) (n : ℕ) (sums : List (Option ℕ)) → first 0 ≡ 0 → ((i : ℕ) (one : Option ℕ) → slice_get sums i ≡ Some one → one ≡ Some 0)
-    → AreSummed universe first lists n 1 sums
-summed_none universe first lists n sums none zeros = summed_pass universe first lists n 0 sums none (record {
+pub summed_none : (weight : ℕ → ℕ) (first : ℕ → ℕ) (lists : ℕ → ℕ → ℕ) (n : ℕ) (sums : List (Option ℕ)) → first 0 ≡ 0 → ((i : ℕ) (one : Option ℕ) → slice_get sums i ≡ Some one → one ≡ Some 0)
+    → AreSummed weight first lists n 1 sums
+summed_none weight first lists n sums none zeros = summed_pass weight first lists n 0 sums none (record {
   each = λ i one there. subst (λ (o : Option ℕ). Tells o 0) (sym (zeros i one there)) (refl, omega arith);
 })
 
 -- a size of the first part
-pub summed_more : (universe : Universe) (first : ℕ → ℕ) (lists : ℕ → ℕ → ℕ) (n d : ℕ) (before after : List (Option ℕ)) (many : Option ℕ) (row : List ℕ) → length after ≡ length before
-    → ((i : ℕ) (one two : Option ℕ) → slice_get before i ≡ Some one → slice_get after i ≡ Some two → AddsProduct one two many (unwrap_or (slice_get row (i + 1)) 0))
-    → Tells many (ways universe n d * first d) → ((i : ℕ) → i < length before → unwrap_or (slice_get row (i + 1)) 0 ≡ lists (i + 1) (n - d))
-    → AreSummed universe first lists n d before → AreSummed universe first lists n (d + 1) after
-summed_more universe first lists n d before after many row same added by_many in_row summed = record {
+pub summed_more : (weight : ℕ → ℕ) (first : ℕ → ℕ) (lists : ℕ → ℕ → ℕ) (n d : ℕ) (before after : List (Option ℕ)) (many : Option ℕ) (rests : ℕ → ℕ) → length after ≡ length before
+    → ((i : ℕ) (one two : Option ℕ) → slice_get before i ≡ Some one → slice_get after i ≡ Some two → AddsProduct one two many (rests i))
+    → Tells many (weight d * first d) → ((i : ℕ) → i < length before → rests i ≡ lists (i + 1) (n - d))
+    → AreSummed weight first lists n d before → AreSummed weight first lists n (d + 1) after
+summed_more weight first lists n d before after many rests same added by_many in_row summed = record {
   each = λ i two there.
       let within : i < length before = omega (arith, slice_get_within after i two there, same) in
       let found = slice_some before i within in
-      subst (λ (k : ℕ). Tells two k) (total i within) (added i found.0 two found.1 there (joined_to universe first (lists (i + 1)) n d) (ways universe n d * first d) (summed.each i found.0 found.1) by_many);
+      subst (λ (k : ℕ). Tells two k) (total i within) (added i found.0 two found.1 there (joined_to weight first (lists (i + 1)) n d) (weight d * first d) (summed.each i found.0 found.1) by_many);
 }
   where
     total : (i : ℕ) → i < length before
-        → joined_to universe first (lists (i + 1)) n d + ways universe n d * first d * unwrap_or (slice_get row (i + 1)) 0 ≡ joined_to universe first (lists (i + 1)) n (d + 1)
+        → joined_to weight first (lists (i + 1)) n d + weight d * first d * rests i ≡ joined_to weight first (lists (i + 1)) n (d + 1)
     total i within =
-        ap (λ (k : ℕ). joined_to universe first (lists (i + 1)) n d + ways universe n d * first d * k) (in_row i within)
-        ∙ ap (λ (k : ℕ). joined_to universe first (lists (i + 1)) n d + k) (mul_assoc (ways universe n d) (first d) (lists (i + 1) (n - d)))
-        ∙ sym (joined_more universe first (lists (i + 1)) n d)
+        ap (λ (k : ℕ). joined_to weight first (lists (i + 1)) n d + weight d * first d * k) (in_row i within)
+        ∙ ap (λ (k : ℕ). joined_to weight first (lists (i + 1)) n d + k) (mul_assoc (weight d) (first d) (lists (i + 1) (n - d)))
+        ∙ sym (joined_more weight first (lists (i + 1)) n d)
 
 -- all splits, where there are no others of size 0
-pub summed_all : (universe : Universe) (first : ℕ → ℕ) (lists : ℕ → ℕ → ℕ) (n d i : ℕ) (sums : List (Option ℕ)) (one : Option ℕ) → d ≡ n → lists (i + 1) 0 ≡ 0 → AreSummed universe first lists n d sums
-    → slice_get sums i ≡ Some one → Tells one (joined universe first (lists (i + 1)) n)
-summed_all universe first lists n d i sums one same none summed there =
+pub summed_all : (weight : ℕ → ℕ) (first : ℕ → ℕ) (lists : ℕ → ℕ → ℕ) (n d i : ℕ) (sums : List (Option ℕ)) (one : Option ℕ) → d ≡ n → lists (i + 1) 0 ≡ 0 → AreSummed weight first lists n d sums
+    → slice_get sums i ≡ Some one → Tells one (joined_to weight first (lists (i + 1)) n (n + 1))
+summed_all weight first lists n d i sums one same none summed there =
     subst (λ (k : ℕ). Tells one k)
-    (ap (joined_to universe first (lists (i + 1)) n) same ∙ last ∙ sym (joined_more universe first (lists (i + 1)) n n)) (summed.each i one there)
+    (ap (joined_to weight first (lists (i + 1)) n) same ∙ last ∙ sym (joined_more weight first (lists (i + 1)) n n)) (summed.each i one there)
   where
     none_other : (w x y : ℕ) → y ≡ 0 → w * (x * y) ≡ 0
     none_other w x y none_there = ap (λ (k : ℕ). w * (x * k)) none_there ∙ ap (λ (k : ℕ). w * k) (mul-zero x) ∙ mul-zero w
@@ -193,5 +193,5 @@ summed_all universe first lists n d i sums one same none summed there =
     behind : n - n ≡ 0
     behind = omega arith
 
-    last : joined_to universe first (lists (i + 1)) n n ≡ joined_to universe first (lists (i + 1)) n n + ways universe n n * (first n * lists (i + 1) (n - n))
-    last = omega (arith, none_other (ways universe n n) (first n) (lists (i + 1) (n - n)) (ap (lists (i + 1)) behind ∙ none))
+    last : joined_to weight first (lists (i + 1)) n n ≡ joined_to weight first (lists (i + 1)) n n + weight n * (first n * lists (i + 1) (n - n))
+    last = omega (arith, none_other (weight n) (first n) (lists (i + 1) (n - n)) (ap (lists (i + 1)) behind ∙ none))

@@ -6,8 +6,6 @@ use Rattle.std.proofs.lemmas.Option.{slice_get-map, slice_get_within, slice_get_
 use Rattle.std.proofs.lemmas.List.FromFn.{length-map-range_with_len, map-range_with_len_more}
 use Rattle.std.proofs.lemmas.List.{length_push, length-map}
 use Rattle.lists.proofs.Places.{pushed_at}
-use Rattle.spec_syntax.specs.declared.expr.Card.{Card}
-use Rattle.spec_syntax.specs.declared.expr.Kind.TheVariants as kind
 use Rattle.spec_syntax.specs.Expression as expr
 use Rattle.spec_syntax.specs.Expression.{Expression, Expressions, expression_list}
 use Rattle.spec_syntax.specs.Nodes.{node_at}
@@ -16,7 +14,7 @@ use Rattle.graphs.specs.Graph.{IsMarked}
 use Rattle.well_founded.specs.Checked.{Checked, grammar}
 use Rattle.splits.specs.Capped.{Tells}
 use Rattle.size_counts.specs.Tables.{Layer, cell, column}
-use Rattle.size_counts.specs.Numbers.{Numbered, numbers_at, suffix_number, suffixes_at, list_number, lists_at, most_components}
+use Rattle.size_counts.specs.Numbers.{Numbered, numbers_at, suffix_number, suffixes_at}
 use Rattle.size_counts.specs.Told.{values, IsLayer, AreTold, TellAll}
 
 -- ---- lists
@@ -130,20 +128,3 @@ suffix_value g es m (suc (suc j)) low high =
 
     two : (j : ℕ) → 2 + j ≡ suc (suc j)
     two j = omega arith
-
-pub list_value : (g : Grammar) (e : Expression) (card : Card) (m c : ℕ) → 1 ≤ c → c ≤ most_components card m
-    → slice_get (values (numbers_at g (expr.Many kind.Sequence e card) m)) c ≡ Some (list_number g e c m)
-list_value g e card m zero low high = absurd (omega arith)
-list_value g e card m (suc j) low high =
-    slice_get-map (λ (numbered : Numbered). numbered.number) (lists_at g e card m) j
-    ∙ ap (option_map (λ (numbered : Numbered). numbered.number)) (made_at _ 1 (most_components card m) j (omega arith))
-    ∙ ap (λ (k : ℕ). Some (list_number g e k m)) (one j)
-  where
-    one : (j : ℕ) → 1 + j ≡ suc j
-    one j = omega arith
-
-pub no_list_value : (g : Grammar) (e : Expression) (card : Card) (m c : ℕ) → most_components card m < c → slice_get (values (numbers_at g (expr.Many kind.Sequence e card) m)) c ≡ None
-no_list_value g e card m zero past = absurd (omega arith)
-no_list_value g e card m (suc j) past =
-    slice_get-map (λ (numbered : Numbered). numbered.number) (lists_at g e card m) j
-    ∙ ap (option_map (λ (numbered : Numbered). numbered.number)) (none_made _ 1 (most_components card m) j (omega arith))

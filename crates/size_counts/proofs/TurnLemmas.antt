@@ -8,7 +8,8 @@ use Rattle.std.proofs.lemmas.Option.{slice_get_within, slice_get_past}
 use Rattle.lists.proofs.Places.{in_of_get}
 use Rattle.lists.proofs.Positions.{slice_some}
 use Rattle.spec_syntax.specs.declared.expr.Card.{Card}
-use Rattle.spec_syntax.specs.declared.expr.Kind.TheVariants as kind
+use Rattle.spec_syntax.specs.declared.expr.Kind.{Kind}
+use Rattle.spec_syntax.specs.declared.expr.Kind.TheVariants as kinds
 use Rattle.spec_syntax.specs.Card.{admits}
 use Rattle.spec_syntax.specs.Expression as expr
 use Rattle.spec_syntax.specs.Expression.{Expression, Expressions, expression_list}
@@ -76,14 +77,14 @@ turn_union checked marks layers told_tables node m rank now es marked at falls n
     let place : slice_get (children_of node (expr.Union es)) k ≡ Some child = subst (λ (all : List ℕ). slice_get all k ≡ Some child) (children_here checked.rules node _ at) child_is in
     child_told checked marks layers told_tables node m rank now (expr.Union es) marked at falls now_told small k child f one place (child_node checked.rules node (expr.Union es) k child at place ∙ f_at) now_at (inl tt)
 
--- a Sequence that may have one component
-pub turn_sequence : (checked : Checked) (marks : List Bool) (layers : List Layer) → AreTold checked marks layers → (node m rank : ℕ) (now : List (Option ℕ)) (element : Expression) (card : Card) → IsMarked marks node
-    → node_at checked.rules node ≡ Some (expr.Many kind.Sequence element card) → FallsBySizes checked.rules checked.leasts checked.ranks node (expr.Many kind.Sequence element card) rank
+-- a container that may have one component
+pub turn_container : (checked : Checked) (marks : List Bool) (layers : List Layer) → AreTold checked marks layers → (node m rank : ℕ) (now : List (Option ℕ)) (kind : Kind) (element : Expression) (card : Card) → IsMarked marks node
+    → node_at checked.rules node ≡ Some (expr.Many kind element card) → FallsBySizes checked.rules checked.leasts checked.ranks node (expr.Many kind element card) rank
     → TellNow checked marks m rank now → m ≤ 1000 → admits card 1 ≡ true → EachTold (grammar checked) (element ∷ []) (children_at checked.rules node) now m
-turn_sequence checked marks layers told_tables node m rank now element card marked at falls now_told small one_admitted k child f one f_at child_is now_at =
-    let place : slice_get (children_of node (expr.Many kind.Sequence element card)) k ≡ Some child = subst (λ (all : List ℕ). slice_get all k ≡ Some child) (children_here checked.rules node _ at) child_is in
-    child_told checked marks layers told_tables node m rank now (expr.Many kind.Sequence element card) marked at falls now_told small k child f one place
-    (child_node checked.rules node (expr.Many kind.Sequence element card) k child at place ∙ f_at) now_at (inl one_admitted)
+turn_container checked marks layers told_tables node m rank now kind element card marked at falls now_told small one_admitted k child f one f_at child_is now_at =
+    let place : slice_get (children_of node (expr.Many kind element card)) k ≡ Some child = subst (λ (all : List ℕ). slice_get all k ≡ Some child) (children_here checked.rules node _ at) child_is in
+    child_told checked marks layers told_tables node m rank now (expr.Many kind element card) marked at falls now_told small k child f one place
+    (child_node checked.rules node (expr.Many kind element card) k child at place ∙ f_at) now_at (inl one_admitted)
 
 -- the name of a rule
 pub turn_name : (checked : Checked) (marks : List Bool) (layers : List Layer) → AreTold checked marks layers → (node m rank : ℕ) (now : List (Option ℕ)) (e : Expression) → IsMarked marks node
@@ -93,10 +94,10 @@ turn_name checked marks layers told_tables node m rank now expr.Epsilon marked a
 turn_name checked marks layers told_tables node m rank now expr.Atom marked at falls now_told small is = absurd (cc)
 turn_name checked marks layers told_tables node m rank now (expr.Union es) marked at falls now_told small is = absurd (cc)
 turn_name checked marks layers told_tables node m rank now (expr.Prod es) marked at falls now_told small is = absurd (cc)
-turn_name checked marks layers told_tables node m rank now (expr.Many kind.Sequence e card) marked at falls now_told small is = absurd (cc)
-turn_name checked marks layers told_tables node m rank now (expr.Many kind.Set e card) marked at falls now_told small is = absurd (cc)
-turn_name checked marks layers told_tables node m rank now (expr.Many kind.PowerSet e card) marked at falls now_told small is = absurd (cc)
-turn_name checked marks layers told_tables node m rank now (expr.Many kind.Cycle e card) marked at falls now_told small is = absurd (cc)
+turn_name checked marks layers told_tables node m rank now (expr.Many kinds.Sequence e card) marked at falls now_told small is = absurd (cc)
+turn_name checked marks layers told_tables node m rank now (expr.Many kinds.Set e card) marked at falls now_told small is = absurd (cc)
+turn_name checked marks layers told_tables node m rank now (expr.Many kinds.PowerSet e card) marked at falls now_told small is = absurd (cc)
+turn_name checked marks layers told_tables node m rank now (expr.Many kinds.Cycle e card) marked at falls now_told small is = absurd (cc)
 turn_name checked marks layers told_tables node m rank now (expr.Name name) marked at falls now_told small is = λ right f one there f_at inside now_at.
     child_told checked marks layers told_tables node m rank now (expr.Name name) marked at falls now_told small 0 right f one there f_at now_at
     (inl (λ other other_at. let same : f ≡ other = let here : Some f ≡ Some other = sym f_at ∙ other_at in cc in subst (λ (x : Expression). IsTrue (is_told_inside x)) same inside))

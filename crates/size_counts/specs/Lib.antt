@@ -1,6 +1,9 @@
 pub mod Reached
 pub mod Numbers
+pub mod Components
+pub mod Repeats
 pub mod Sums
+pub mod Shared
 pub mod Ways
 pub mod Tables
 pub mod Told

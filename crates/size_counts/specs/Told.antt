@@ -1,7 +1,7 @@
 -- What is known of the tables, and of the numbers at the size that is being filled.
-use Rattle.std.specs.Prelude.{◌≡◌, ◌⊎◌, ℕ, Bool, ◌≤◌, ◌<◌, ◌^◌, List, length, map, Option, Some, slice_get, IsTrue}
+use Rattle.std.specs.Prelude.{◌≡◌, ◌⊎◌, ℕ, Bool, ◌≤◌, ◌<◌, ◌^◌, List, length, map, Option, Some, slice_get}
 use Rattle.spec_syntax.specs.Expression.{Expression}
-use Rattle.spec_syntax.specs.Rules.{Rules, all_nodes, are_sequences}
+use Rattle.spec_syntax.specs.Rules.{Rules, all_nodes}
 use Rattle.spec_syntax.specs.Nodes.{node_at, below}
 use Rattle.spec_syntax.specs.Grammar.{Grammar}
 use Rattle.lists.specs.Enumeration.{IsIn}
@@ -31,7 +31,6 @@ AreClosed rules marks = (n m : ℕ) (e : Expression) → IsMarked marks n → no
 -- the layers have the numbers of the marked nodes of a checked grammar, by size from 0 on
 pub record AreTold (checked : Checked) (marks : List Bool) (layers : List Layer) : Type 0 where
   pub is_checked : IsChecked checked
-  pub sequences : IsTrue (are_sequences checked.rules)
   pub for_each : length marks ≡ length (all_nodes checked.rules)
   pub closed : AreClosed checked.rules marks
   pub layer_is : (m : ℕ) (layer : Layer) → slice_get layers m ≡ Some layer → IsLayer (grammar checked) marks m layer

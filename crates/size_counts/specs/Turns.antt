@@ -2,7 +2,7 @@
 use Rattle.std.specs.Prelude.{◌≡◌, ℕ, ◌-◌, List, [], length, map, Option, Some, None, slice_get, IsTrue}
 use Rattle.std.specs.List.{range_with_len}
 use Rattle.spec_syntax.specs.declared.expr.Card.{Card}
-use Rattle.spec_syntax.specs.declared.expr.Kind.TheVariants as kind
+use Rattle.spec_syntax.specs.declared.expr.Kind.{Kind}
 use Rattle.spec_syntax.specs.Expression.{Expression, Expressions, Prod, Many}
 use Rattle.spec_syntax.specs.Nodes.{node_at, below}
 use Rattle.spec_syntax.specs.Grammar.{Grammar}
@@ -14,8 +14,9 @@ use Rattle.well_founded.specs.Checked.{Checked, grammar}
 use Rattle.well_founded.specs.Rank.{FallsBySizes}
 use Rattle.well_founded.specs.SameSize.{is_told_inside}
 use Rattle.splits.specs.Capped.{Tells}
+use Rattle.listing_laws.specs.ContainersRecur.{of_components}
 use Rattle.size_counts.specs.declared.tables.Tables.{Tables}
-use Rattle.size_counts.specs.Numbers.{list_number, most_components, numbers_at}
+use Rattle.size_counts.specs.Numbers.{most_components, numbers_at}
 use Rattle.size_counts.specs.Suffixes.{FirstsTold}
 use Rattle.size_counts.specs.Told.{values, IsReady, TellAll, TellNow}
 
@@ -42,13 +43,13 @@ NameTold checked n e now m =
     (right : ℕ) (f : Expression) (one : Option ℕ) → slice_get (below checked.rules n e) 0 ≡ Some right → node_at checked.rules right ≡ Some f → IsTrue (is_told_inside f) → slice_get now right ≡ Some one
     → Tells one (number (grammar checked) f m)
 
--- of the node, where it is a Sequence, the lists of two components or more are told
+-- of the node, where it is a container, the numbers of those of two components or more are told
 abbrev pub LongerTold : Checked → ℕ → ℕ → List (Option ℕ) → Type 0
 LongerTold checked node m longer =
-    (element : Expression) (card : Card) → node_at checked.rules node ≡ Some (Many kind.Sequence element card)
-    → TellAll longer (map (λ c. list_number (grammar checked) element c m) (range_with_len 2 (most_components card m - 1)))
+    (kind : Kind) (element : Expression) (card : Card) → node_at checked.rules node ≡ Some (Many kind element card)
+    → TellAll longer (map (λ c. of_components (grammar checked) kind element c m) (range_with_len 2 (most_components card m - 1)))
 
--- what is told of the numbers of the node beside its count: of a Sequence the lists of two components or more, and of a Prod the
+-- what is told of the numbers of the node beside its count: of a container those of two components or more, and of a Prod the
 -- first suffixes, as far as they are made
 pub record BesideTold (checked : Checked) (node m : ℕ) (beside : List (Option ℕ)) : Type 0 where
   pub longer : LongerTold checked node m beside

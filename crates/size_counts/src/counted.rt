@@ -1,10 +1,10 @@
 //! The numbers of a class up to a size.
-ghost use Rattle.std.specs.Prelude.{◌≡◌, ◌+◌, ◌-◌, ◌≤◌, ◌<◌, ◌↔◌, ◌∷◌, [], ◌++◌, ℕ, true, Some, None, length, IfOk, IfErr, OnOk, IsSome, IfSome, IsTrue};
+ghost use Rattle.std.specs.Prelude.{◌≡◌, ◌⊎◌, ◌+◌, ◌-◌, ◌≤◌, ◌<◌, ◌↔◌, ◌∷◌, [], ◌++◌, ℕ, true, Some, None, length, IfOk, IfErr, OnOk, IsSome, IfSome, IsTrue};
 ghost use Rattle.std.specs.Option.{option_map, option_map_or};
 ghost use Rattle.spec_syntax.specs.declared.expr.Card.{Card as AnyCard};
 ghost use Rattle.spec_syntax.specs.Card.{is_within};
 ghost use Rattle.spec_syntax.specs.Expression.{Name};
-ghost use Rattle.spec_syntax.specs.Rules.{all_nodes, are_sequences, rule_name};
+ghost use Rattle.spec_syntax.specs.Rules.{all_nodes, rule_name};
 ghost use Rattle.struct_model.specs.Bounded.{number};
 ghost use Rattle.spec_syntax.specs.Nodes.{node_at, card_at, children_at, right_node, arguments_at};
 ghost use Rattle.well_founded.specs.declared.node.NodeKind.TheVariants as told;
@@ -14,7 +14,7 @@ ghost use Rattle.size_counts.specs.Reached.{IsReached};
 ghost use Rattle.size_counts.specs.Numbers.{NumbersSay, first_large};
 ghost use Rattle.size_counts.specs.Told.{IsReady};
 ghost use Rattle.size_counts.specs.Ways.{CanSplit};
-ghost use Rattle.size_counts.specs.CountedView.{Counts as CountsSeen, IsCounted, IsReachedIn, number_of, suffix_of, lists_of, FaultSays};
+ghost use Rattle.size_counts.specs.CountedView.{Counts as CountsSeen, IsCounted, IsReachedIn, number_of, suffix_of, lists_of, sets_of, cycles_of, FaultSays};
 ghost use Rattle.size_counts.specs.Filled.{LayerSays, FaultAt, IsFilledTo};
 
 use crate::fill::{counts, longer_each};
@@ -106,7 +106,6 @@ impl Counted {
     pub fn new(alloc: Global, grammar: Grammar, size: u32) -> Result<Counted, CountFault>
         requires start { IsSome grammar.start }
         requires small { size ≤ 1000 }
-        requires sequences { IsTrue (are_sequences grammar.rules) }
         ensures counted { IfOk result (λ counted. counted ≡ record { checked = grammar; size = size }) }
         ensures fit { IfOk result (λ counted. (sym : ℕ) → grammar.start ≡ Some sym → NumbersSay (grammar_of grammar) sym size None) }
         ensures fault { IfErr result (λ fault. (sym : ℕ) → grammar.start ≡ Some sym → FaultSays (grammar_of grammar) sym size fault) }
@@ -177,10 +176,10 @@ impl Counted {
         cell(&self.tables.layers[m as usize], node, i - 1)
     }
 
-    /// The number of lists of c elements of the Sequence with m atoms in all.
+    /// The number of lists of c elements of the Sequence or the Cycle with m atoms in all.
     pub fn lists(&self, node: u32, c: u32, m: u32) -> u128
         requires reached { IsReachedIn self.now node }
-        requires sequence { option_map kind_of (node_at self.now.checked.rules node) ≡ Some told.Sequence }
+        requires kind { (option_map kind_of (node_at self.now.checked.rules node) ≡ Some told.Sequence) ⊎ (option_map kind_of (node_at self.now.checked.rules node) ≡ Some told.Cycle) }
         requires high { (card : AnyCard) → card_at self.now.checked.rules node ≡ Some card → is_within card.high c ≡ true }
         requires within { m ≤ self.now.size }
         ensures { result ≡ lists_of self.now node c m }
@@ -190,5 +189,32 @@ impl Counted {
             return if m == 0 { 1 } else { 0 };
         }
         cell(layer, node, c)
+    }
+
+    /// The number of Sets or PowerSets of exactly c elements of the node with m atoms in all.
+    pub fn sets(&self, node: u32, c: u32, m: u32) -> u128
+        requires reached { IsReachedIn self.now node }
+        requires kind { (option_map kind_of (node_at self.now.checked.rules node) ≡ Some told.Set) ⊎ (option_map kind_of (node_at self.now.checked.rules node) ≡ Some told.PowerSet) }
+        requires high { (card : AnyCard) → card_at self.now.checked.rules node ≡ Some card → is_within card.high c ≡ true }
+        requires within { m ≤ self.now.size }
+        ensures { result ≡ sets_of self.now node c m }
+    {
+        let layer = &self.tables.layers[m as usize];
+        if c == 0 {
+            return if m == 0 { 1 } else { 0 };
+        }
+        cell(layer, node, c) / c as u128
+    }
+
+    /// The number of Cycles of exactly c elements of the node with m atoms in all.
+    pub fn cycles(&self, node: u32, c: u32, m: u32) -> u128
+        requires reached { IsReachedIn self.now node }
+        requires cycle { option_map kind_of (node_at self.now.checked.rules node) ≡ Some told.Cycle }
+        requires low { 1 ≤ c }
+        requires high { (card : AnyCard) → card_at self.now.checked.rules node ≡ Some card → is_within card.high c ≡ true }
+        requires within { m ≤ self.now.size }
+        ensures { result ≡ cycles_of self.now node c m }
+    {
+        cell(&self.tables.layers[m as usize], node, c) / c as u128
     }
 }

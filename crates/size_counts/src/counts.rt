@@ -2,23 +2,23 @@
 ghost use Rattle.std.specs.Prelude.{◌≡◌, ◌+◌, ◌-◌, ◌≤◌, ◌<◌, ◌∷◌, [], ℕ, Bool, Some, true, length, slice_get, IfOk, IsTrue};
 ghost use Rattle.std.specs.Option.{option_map};
 ghost use Rattle.spec_syntax.specs.declared.expr.Card.{Card as AnyCard};
-ghost use Rattle.spec_syntax.specs.declared.expr.Kind.TheVariants as kind;
+ghost use Rattle.spec_syntax.specs.declared.expr.Kind.{Kind};
 ghost use Rattle.spec_syntax.specs.Expression.{Expression, Expressions, Union as UnionOf, Prod as ProdOf, Many, expression_list};
 ghost use Rattle.spec_syntax.specs.Card.{admits};
-ghost use Rattle.spec_syntax.specs.Rules.{all_nodes, are_sequences};
+ghost use Rattle.spec_syntax.specs.Rules.{all_nodes};
 ghost use Rattle.spec_syntax.specs.Grammar.{Grammar};
 ghost use Rattle.spec_syntax.specs.Nodes.{node_at, children_at};
 ghost use Rattle.struct_model.specs.Bounded.{number};
 ghost use Rattle.well_founded.specs.declared.node.NodeKind.TheVariants as told;
-ghost use Rattle.well_founded.specs.NodeKinds.{kind_of};
+ghost use Rattle.well_founded.specs.NodeKinds.{kind_of, is_container};
 ghost use Rattle.well_founded.specs.Checked.{grammar};
 ghost use Rattle.listing_laws.specs.Numbers.{one_at};
 ghost use Rattle.splits.specs.Capped.{Tells};
-ghost use Rattle.size_counts.specs.Numbers.{most_components, list_number};
 ghost use Rattle.size_counts.specs.Told.{IsReady};
 ghost use Rattle.size_counts.specs.Suffixes.{FirstsTold, AreBegun};
 ghost use Rattle.size_counts.specs.Turns.{word_size, EachTold, NameTold, LongerTold, BesideTold, IsTurn};
 
+use crate::components::of_components;
 use crate::tables::Tables;
 use splits::plus;
 use well_founded::NodeKind;
@@ -45,22 +45,8 @@ fn union_count(tables: &Tables, node: u32, m: u32, now: &[Option<u128>]) -> Opti
     sum
 }
 
-/// The number of lists of c components of a Sequence, by the count of the element and the numbers of longer lists.
-fn list_count(c: u32, m: u32, element: Option<u128>, longer: &[Option<u128>]) -> Option<u128>
-    requires { 2 ≤ c → c < length longer.now + 2 }
-    ensures none { c ≡ 0 → Tells result (one_at 0 m) }
-    ensures one { c ≡ 1 → result ≡ element }
-    ensures more { 2 ≤ c → slice_get longer.now (c - 2) ≡ Some result }
-{
-    match c {
-        0 => one_at(0, m),
-        1 => element,
-        _ => longer[c as usize - 2],
-    }
-}
-
-/// The count of a Sequence, by that of its element and the numbers of longer lists.
-fn sequence_count(
+/// The count of a container, by that of its element and the numbers of those of two components or more.
+fn container_count(
     tables: &Tables,
     node: u32,
     m: u32,
@@ -68,18 +54,19 @@ fn sequence_count(
     longer: &[Option<u128>],
 ) -> Option<u128>
     requires ready { IsReady tables.now m }
-    requires sequence { option_map kind_of (node_at tables.now.grammar.rules node) ≡ Some told.Sequence }
+    requires container { option_map is_container (option_map kind_of (node_at tables.now.grammar.rules node)) ≡ Some true }
     requires within { node < length (all_nodes tables.now.grammar.rules) }
     requires for_each { length now.now ≡ length (all_nodes tables.now.grammar.rules) }
     requires longer { LongerTold tables.now.grammar node m longer.now }
-    ensures { (element : Expression) (card : AnyCard) → node_at tables.now.grammar.rules node ≡ Some (Many kind.Sequence element card) → (admits card 1 ≡ true → EachTold (grammar tables.now.grammar) (element ∷ []) (children_at tables.now.grammar.rules node) now.now m) → Tells result (number (grammar tables.now.grammar) (Many kind.Sequence element card) m) }
+    ensures { (kind : Kind) (element : Expression) (card : AnyCard) → node_at tables.now.grammar.rules node ≡ Some (Many kind element card) → (admits card 1 ≡ true → EachTold (grammar tables.now.grammar) (element ∷ []) (children_at tables.now.grammar.rules node) now.now m) → Tells result (number (grammar tables.now.grammar) (Many kind element card) m) }
 {
+    let kind = tables.grammar.kind(node);
     let card = tables.grammar.card(node);
     let element = now[tables.grammar.child(node, 1) as usize];
     let mut sum = Some(0);
     for c in 0..m + 1 {
         if card.admits(c) {
-            sum = plus(sum, list_count(c, m, element, longer));
+            sum = plus(sum, of_components(kind, c, m, element, longer));
         }
     }
     sum
@@ -147,7 +134,8 @@ pub(crate) fn count_of(
         NodeKind::Rule => name_count(tables, node, m, now),
         NodeKind::Union => union_count(tables, node, m, now),
         NodeKind::Prod => prod_count(m, beside),
-        NodeKind::Sequence => sequence_count(tables, node, m, now, beside),
-        NodeKind::Set | NodeKind::PowerSet | NodeKind::Cycle => Some(0),
+        NodeKind::Sequence | NodeKind::Set | NodeKind::PowerSet | NodeKind::Cycle => {
+            container_count(tables, node, m, now, beside)
+        }
     }
 }

@@ -11,15 +11,44 @@ ghost use Rattle.size_counts.specs.Told.{IsReady, TellNow};
 ghost use Rattle.size_counts.specs.Suffixes.{AreBegun};
 ghost use Rattle.size_counts.specs.Turns.{BesideTold, AreBeside, IsTurn};
 
-use crate::components::longer_lists;
+use crate::components::longer_by_first;
 use crate::counts::count_of;
+use crate::multisets::longer_multisets;
+use crate::subsets::longer_subsets;
 use crate::suffixes::first_suffixes;
 use crate::tables::Tables;
 use seq::Seq;
+use spec_syntax::Universe;
 use std::alloc::{AllocError, Global};
 use well_founded::NodeKind;
 
-/// What is told beside the count before any count is: of the node, where it is marked and a Sequence, the numbers of lists of
+/// The numbers of the node, where it is a container, with two components or more at size m.
+fn longer(
+    alloc: Global,
+    tables: &Tables,
+    node: u32,
+    m: u32,
+) -> Result<Seq<Option<u128>>, AllocError>
+    requires ready { IsReady tables.now m }
+    requires marked { IsMarked tables.now.marks.items node }
+    ensures { IfOk result (λ made. BesideTold tables.now.grammar node m made) }
+{
+    match tables.grammar.kind(node) {
+        NodeKind::Sequence | NodeKind::Cycle => longer_by_first(alloc, tables, node, m),
+        NodeKind::Set => match tables.grammar.universe() {
+            Universe::Labelled => longer_by_first(alloc, tables, node, m),
+            Universe::Unlabelled => longer_multisets(alloc, tables, node, m),
+        },
+        NodeKind::PowerSet => match tables.grammar.universe() {
+            Universe::Labelled => longer_by_first(alloc, tables, node, m),
+            Universe::Unlabelled => longer_subsets(alloc, tables, node, m),
+        },
+        NodeKind::Epsilon | NodeKind::Atom | NodeKind::Rule | NodeKind::Union | NodeKind::Prod =>
+            Ok(Seq::new(alloc)),
+    }
+}
+
+/// What is told beside the count before any count is: of the node, where it is marked and a container, the numbers of those of
 /// two components or more at size m.
 fn longer_of(
     alloc: Global,
@@ -31,8 +60,8 @@ fn longer_of(
     requires within { node < length (all_nodes tables.now.grammar.rules) }
     ensures { IfOk result (λ made. IsMarked tables.now.marks.items node → BesideTold tables.now.grammar node m made) }
 {
-    if tables.marks[node as usize] && tables.grammar.kind(node) == NodeKind::Sequence {
-        return longer_lists(alloc, tables, node, m);
+    if tables.marks[node as usize] {
+        return longer(alloc, tables, node, m);
     }
     Ok(Seq::new(alloc))
 }

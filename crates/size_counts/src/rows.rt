@@ -1,18 +1,18 @@
 //! All numbers of the nodes at a size.
-ghost use Rattle.std.specs.Prelude.{◌≡◌, ◌+◌, ◌-◌, ◌≤◌, ◌<◌, ◌∷◌, [], ◌++◌, ℕ, List, Some, map, length, slice_get, IfOk, OnOk};
+ghost use Rattle.std.specs.Prelude.{◌≡◌, ◌+◌, ◌-◌, ◌≤◌, ◌<◌, ◌∷◌, [], ◌++◌, ℕ, List, Some, true, map, length, slice_get, IfOk, OnOk};
 ghost use Rattle.std.specs.Option.{option_map};
 ghost use Rattle.spec_syntax.specs.Expression.{Expression};
 ghost use Rattle.spec_syntax.specs.Rules.{all_nodes};
 ghost use Rattle.spec_syntax.specs.Nodes.{node_at};
 ghost use Rattle.graphs.specs.Graph.{IsMarked};
 ghost use Rattle.well_founded.specs.declared.node.NodeKind.TheVariants as told;
-ghost use Rattle.well_founded.specs.NodeKinds.{kind_of};
+ghost use Rattle.well_founded.specs.NodeKinds.{kind_of, is_container};
 ghost use Rattle.well_founded.specs.Checked.{grammar};
 ghost use Rattle.size_counts.specs.Numbers.{others_at, numbers_at};
 ghost use Rattle.size_counts.specs.Told.{values, IsReady, TellAll, TellNow};
 ghost use Rattle.size_counts.specs.Turns.{LongerTold, BesideTold, AreBeside, AreRows};
 
-use crate::components::most_components;
+use crate::components::{in_row, most_components, of_components};
 use crate::suffixes::suffixes;
 use crate::tables::Tables;
 use seq::Seq;
@@ -45,8 +45,8 @@ fn later_suffixes(
     Ok(made)
 }
 
-/// The numbers of lists of the Sequence.
-fn all_lists(
+/// The numbers of the container by the number of components.
+fn all_components(
     alloc: Global,
     tables: &Tables,
     node: u32,
@@ -56,16 +56,18 @@ fn all_lists(
 ) -> Result<Seq<Option<u128>>, AllocError>
     requires ready { IsReady tables.now m }
     requires marked { IsMarked tables.now.marks.items node }
-    requires sequence { option_map kind_of (node_at tables.now.grammar.rules node) ≡ Some told.Sequence }
+    requires container { option_map is_container (option_map kind_of (node_at tables.now.grammar.rules node)) ≡ Some true }
     requires now { TellNow tables.now.grammar tables.now.marks.items m (length (all_nodes tables.now.grammar.rules)) now.now }
     requires longer { LongerTold tables.now.grammar node m longer.now }
     ensures { IfOk result (λ made. (e : Expression) → node_at tables.now.grammar.rules node ≡ Some e → TellAll made (values (others_at (grammar tables.now.grammar) e m))) }
 {
+    let kind = tables.grammar.kind(node);
+    let element = now[tables.grammar.child(node, 1) as usize];
     let mut made = Seq::new(alloc);
-    if most_components(tables.grammar.card(node), m) > 0 {
-        made.push(now[tables.grammar.child(node, 1) as usize])?;
+    for earlier in 0..most_components(tables.grammar.card(node), m) {
+        let c = earlier + 1;
+        made.push(in_row(kind, c, of_components(kind, c, m, element, longer)))?;
     }
-    made.extend_from_slice(longer)?;
     Ok(made)
 }
 
@@ -86,14 +88,12 @@ fn others(
 {
     match tables.grammar.kind(node) {
         NodeKind::Prod => later_suffixes(alloc, tables, node, m, now, beside),
-        NodeKind::Sequence => all_lists(alloc, tables, node, m, now, beside),
-        NodeKind::Epsilon
-        | NodeKind::Atom
-        | NodeKind::Rule
-        | NodeKind::Union
-        | NodeKind::Set
-        | NodeKind::PowerSet
-        | NodeKind::Cycle => Ok(Seq::new(alloc)),
+        NodeKind::Sequence | NodeKind::Set | NodeKind::PowerSet | NodeKind::Cycle => {
+            all_components(alloc, tables, node, m, now, beside)
+        }
+        NodeKind::Epsilon | NodeKind::Atom | NodeKind::Rule | NodeKind::Union => {
+            Ok(Seq::new(alloc))
+        }
     }
 }
 

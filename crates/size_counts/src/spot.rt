@@ -1,7 +1,7 @@
 //! Where a number stands.
 ghost use Rattle.std.specs.Prelude.{◌≡◌, ◌+◌, ◌-◌, ◌≤◌, ◌<◌, ℕ, Some, length, slice_get, IsTrue};
 ghost use Rattle.spec_syntax.specs.Expression.{Expression};
-ghost use Rattle.spec_syntax.specs.Rules.{all_nodes, are_sequences};
+ghost use Rattle.spec_syntax.specs.Rules.{all_nodes};
 ghost use Rattle.spec_syntax.specs.Nodes.{node_at, place_in_rule, right_node};
 ghost use Rattle.well_founded.specs.Checked.{IsChecked, grammar as grammar_of};
 ghost use Rattle.size_counts.specs.Numbers.{Numbered, numbers_at, place_of};

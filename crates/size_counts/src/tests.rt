@@ -1,9 +1,9 @@
 //! Tests of the numbers of small classes.
 ghost use Rattle.std.specs.Prelude.{◌≡◌, Some, None, [], ◌∷◌, ◌++◌, ◌≤◌, IfOk, IsTrue, IsSome};
-ghost use Rattle.spec_syntax.specs.Rules.{is_spec, are_sequences, symbol};
+ghost use Rattle.spec_syntax.specs.Rules.{is_spec, symbol};
 ghost use Rattle.spec_syntax.specs.Card.{is_writable};
+ghost use Rattle.spec_syntax.specs.declared.expr.Kind.TheVariants.{Sequence as SequenceOf, Cycle as CycleOf};
 ghost use Rattle.spec_syntax.specs.Expression.{Atom as AtomOf, Name as NameOf, Union as UnionOf, Prod as ProdOf, Many as ManyOf, more_expressions, no_expressions};
-ghost use Rattle.spec_syntax.specs.declared.expr.Kind.TheVariants.{Sequence as SequenceOf};
 
 use crate::{CountFault, Counted, Group, Place, numbers_of_a_class_say_one_thing};
 use spec_syntax::{Card, Expr, ExprShape, Exprs, Kind, Name, Spec, Universe};
@@ -57,17 +57,20 @@ fn prod_of(alloc: Global, one: Expr, other: Expr) -> Result<Expr, AllocError>
     })
 }
 
-/// A Sequence of the element, with this bound.
-fn sequence_of(alloc: Global, element: Expr, card: Card) -> Result<Expr, AllocError>
-    ensures { IfOk result (λ expr. expr ≡ ManyOf SequenceOf element card) }
+/// A container of the element, with this bound.
+fn many(alloc: Global, kind: Kind, element: Expr, card: Card) -> Result<Expr, AllocError>
+    ensures { IfOk result (λ expr. expr ≡ ManyOf kind element card) }
 {
     Ok(Expr {
-        shape: ExprShape::Many(Kind::Sequence, Box::new(alloc, element)?, card),
+        shape: ExprShape::Many(kind, Box::new(alloc, element)?, card),
     })
 }
 
 /// The bound that admits any number.
 const ANY: Card = Card { low: 0, high: None };
+
+/// The bound that admits any number but none.
+const SOME: Card = Card { low: 1, high: None };
 
 /// The numbers of the class of the rule `S = right`, where it passes the check.
 fn counted(
@@ -77,7 +80,6 @@ fn counted(
     size: u32,
 ) -> Result<Option<Result<Counted, CountFault>>, AllocError>
     requires spec { IsTrue (is_spec ((83 ∷ [], right) ∷ [])) }
-    requires sequences { IsTrue (are_sequences ((83 ∷ [], right) ∷ [])) }
     requires small { size ≤ 1000 }
 {
     let mut spec = Spec::new(alloc);
@@ -98,7 +100,8 @@ fn told(answer: Option<Result<Counted, CountFault>>) -> Result<u128, Option<Plac
     }
 }
 
-/// What the accessor for the node's kind tells: the suffix from argument i on, the lists of i components, or the number.
+/// What the accessor for the node's kind tells: the suffix from argument i on, the lists, Sets or Cycles of i components, or the
+/// number.
 fn other(counted: &Counted, node: u32, i: u32, m: u32) -> u128 {
     let grammar = counted.grammar();
     if node >= grammar.nodes() || m > counted.size() || !counted.reached(node) {
@@ -116,13 +119,20 @@ fn other(counted: &Counted, node: u32, i: u32, m: u32) -> u128 {
             Some(_) => 0,
             None => counted.lists(node, i, m),
         },
+        NodeKind::Set => match grammar.card(node).high {
+            Some(_) => 0,
+            None => counted.sets(node, i, m),
+        },
+        NodeKind::Cycle => match grammar.card(node).high {
+            Some(_) => 0,
+            None if i > 0 => counted.cycles(node, i, m),
+            None => 0,
+        },
         NodeKind::Epsilon
         | NodeKind::Atom
         | NodeKind::Rule
         | NodeKind::Union
-        | NodeKind::Set
-        | NodeKind::PowerSet
-        | NodeKind::Cycle => counted.number(node, m),
+        | NodeKind::PowerSet => counted.number(node, m),
     }
 }
 
@@ -132,10 +142,10 @@ fn counts(rt: HostRuntime) -> Result<(), Fail> {
     let trees = union_of(alloc, atom(), prod_of(alloc, class(alloc)?, class(alloc)?)?)?;
     let trees = counted(alloc, trees, Universe::Unlabelled, 30)?;
     assert!(rt; told(trees) == Ok(1002242216651368));
-    let words = sequence_of(alloc, atom(), ANY)?;
+    let words = many(alloc, Kind::Sequence, atom(), ANY)?;
     let words = counted(alloc, words, Universe::Labelled, 34)?;
     assert!(rt; told(words) == Ok(295232799039604140847618609643520000000));
-    let words = sequence_of(alloc, atom(), ANY)?;
+    let words = many(alloc, Kind::Sequence, atom(), ANY)?;
     let words = counted(alloc, words, Universe::Labelled, 35)?;
     let place = Place {
         rule: 1,
@@ -151,8 +161,8 @@ fn counts(rt: HostRuntime) -> Result<(), Fail> {
 #[test]
 fn numbers(rt: HostRuntime) -> Result<(), Fail> {
     let alloc = rt.alloc();
-    let one = sequence_of(alloc, atom(), ANY)?;
-    let two = sequence_of(alloc, atom(), ANY)?;
+    let one = many(alloc, Kind::Sequence, atom(), ANY)?;
+    let two = many(alloc, Kind::Sequence, atom(), ANY)?;
     let pairs = counted(alloc, prod_of(alloc, one, two)?, Universe::Labelled, 3)?;
     if let Some(Ok(counted)) = pairs {
         assert_eq!(rt; counted.count(), 24);
@@ -164,6 +174,134 @@ fn numbers(rt: HostRuntime) -> Result<(), Fail> {
         return Ok(());
     }
     assert!(rt; false);
+    Ok(())
+}
+
+/// The count of the class of the rule `S = right` at this size.
+fn count(
+    alloc: Global,
+    right: Expr,
+    universe: Universe,
+    size: u32,
+) -> Result<Result<u128, Option<Place>>, AllocError>
+    requires spec { IsTrue (is_spec ((83 ∷ [], right) ∷ [])) }
+    requires small { size ≤ 1000 }
+{
+    Ok(told(counted(alloc, right, universe, size)?))
+}
+
+#[test]
+fn rooted_trees(rt: HostRuntime) -> Result<(), Fail> {
+    let alloc = rt.alloc();
+    let five = prod_of(alloc, atom(), many(alloc, Kind::Set, class(alloc)?, ANY)?)?;
+    assert!(rt; count(alloc, five, Universe::Unlabelled, 5)? == Ok(9));
+    let ten = prod_of(alloc, atom(), many(alloc, Kind::Set, class(alloc)?, ANY)?)?;
+    assert!(rt; count(alloc, ten, Universe::Unlabelled, 10)? == Ok(719));
+    Ok(())
+}
+
+/// A container of lists of atoms, none of which is empty: a partition, or an order of the parts of one.
+fn parts(alloc: Global, kind: Kind) -> Result<Expr, AllocError>
+    ensures { IfOk result (λ expr. expr ≡ ManyOf kind (ManyOf SequenceOf AtomOf (record { low = 1; high = None })) (record { low = 0; high = None })) }
+{
+    many(alloc, kind, many(alloc, Kind::Sequence, atom(), SOME)?, ANY)
+}
+
+#[test]
+fn partitions(rt: HostRuntime) -> Result<(), Fail> {
+    let alloc = rt.alloc();
+    let distinct = parts(alloc, Kind::PowerSet)?;
+    assert!(rt; count(alloc, distinct, Universe::Unlabelled, 10)? == Ok(10));
+    let any = parts(alloc, Kind::Set)?;
+    assert!(rt; count(alloc, any, Universe::Unlabelled, 10)? == Ok(42));
+    let many_any = parts(alloc, Kind::Set)?;
+    assert!(rt; count(alloc, many_any, Universe::Unlabelled, 200)? == Ok(3972999029388));
+    let cycles = parts(alloc, Kind::Cycle)?;
+    assert!(rt; count(alloc, cycles, Universe::Labelled, 4)? == Ok(90));
+    Ok(())
+}
+
+#[test]
+fn sets_of_words(rt: HostRuntime) -> Result<(), Fail> {
+    let alloc = rt.alloc();
+    let ten = Card {
+        low: 10,
+        high: Some(10),
+    };
+    let five = Card {
+        low: 5,
+        high: Some(5),
+    };
+    let word = many(alloc, Kind::Sequence, union_of(alloc, atom(), atom())?, ten)?;
+    let words = many(alloc, Kind::PowerSet, word, five)?;
+    assert!(rt; count(alloc, words, Universe::Unlabelled, 50)? == Ok(9291185992704));
+    Ok(())
+}
+
+#[test]
+fn labelled_sets(rt: HostRuntime) -> Result<(), Fail> {
+    let alloc = rt.alloc();
+    let five = many(alloc, Kind::Set, many(alloc, Kind::Set, atom(), SOME)?, ANY)?;
+    assert!(rt; count(alloc, five, Universe::Labelled, 5)? == Ok(52));
+    let more = many(alloc, Kind::Set, many(alloc, Kind::Set, atom(), SOME)?, ANY)?;
+    assert!(rt; count(alloc, more, Universe::Labelled, 25)? == Ok(4638590332229999353));
+    let one = many(alloc, Kind::Set, atom(), ANY)?;
+    assert!(rt; count(alloc, one, Universe::Labelled, 200)? == Ok(1));
+    Ok(())
+}
+
+#[test]
+fn sets_of_atoms(rt: HostRuntime) -> Result<(), Fail> {
+    let alloc = rt.alloc();
+    let labelled = many(alloc, Kind::PowerSet, atom(), ANY)?;
+    assert!(rt; count(alloc, labelled, Universe::Labelled, 3)? == Ok(1));
+    let unlabelled = many(alloc, Kind::PowerSet, atom(), ANY)?;
+    assert!(rt; count(alloc, unlabelled, Universe::Unlabelled, 3)? == Ok(0));
+    let cycle = many(alloc, Kind::Cycle, atom(), ANY)?;
+    assert!(rt; count(alloc, cycle, Universe::Labelled, 6)? == Ok(120));
+    Ok(())
+}
+
+/// Cycles of atoms of two kinds.
+fn necklaces(alloc: Global) -> Result<Expr, AllocError>
+    ensures { IfOk result (λ expr. expr ≡ ManyOf CycleOf (UnionOf (more_expressions AtomOf (more_expressions AtomOf no_expressions))) (record { low = 0; high = None })) }
+{
+    many(alloc, Kind::Cycle, union_of(alloc, atom(), atom())?, ANY)
+}
+
+#[test]
+fn labelled_cycles(rt: HostRuntime) -> Result<(), Fail> {
+    let alloc = rt.alloc();
+    let four = necklaces(alloc)?;
+    assert!(rt; count(alloc, four, Universe::Labelled, 4)? == Ok(96));
+    let six = necklaces(alloc)?;
+    assert!(rt; count(alloc, six, Universe::Labelled, 6)? == Ok(7680));
+    let twenty = necklaces(alloc)?;
+    assert!(rt; count(alloc, twenty, Universe::Labelled, 20)? == Ok(127554132806291423232000));
+    Ok(())
+}
+
+#[test]
+fn the_first_too_large(rt: HostRuntime) -> Result<(), Fail> {
+    let alloc = rt.alloc();
+    let pairs = Card {
+        low: 2,
+        high: Some(2),
+    };
+    let halves = Card {
+        low: 66,
+        high: Some(66),
+    };
+    let half = many(alloc, Kind::Set, atom(), halves)?;
+    let sets = many(alloc, Kind::Set, half, pairs)?;
+    let place = Place {
+        rule: 1,
+        node: 1,
+        group: Group::Sets,
+        index: 2,
+        size: 132,
+    };
+    assert!(rt; count(alloc, sets, Universe::Labelled, 132)? == Err(Some(place)));
     Ok(())
 }
 

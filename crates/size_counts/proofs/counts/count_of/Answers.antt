@@ -2,10 +2,13 @@ use Rattle.std.proofs.Common.{◌≡◌, ap, subst, sym, ◌∙◌, refl, Some, 
 use Rattle.spec_syntax.specs.Expression.{Expression}
 use Rattle.struct_model.specs.Bounded.{number}
 use Rattle.well_founded.specs.declared.node.NodeKind.TheVariants as told
+use Rattle.spec_syntax.specs.Nodes.{node_at}
+use Rattle.well_founded.specs.NodeKinds.{is_container}
 use Rattle.well_founded.specs.Checked.{grammar}
 use Rattle.splits.specs.Capped.{Tells}
-use Rattle.size_counts.proofs.CountLemmas.{kind_here, word_count, union_there, prod_there, sequence_there, no_other, is_other}
-use Rattle.size_counts.proofs.TurnLemmas.{turn_union, turn_sequence, turn_name}
+use Rattle.size_counts.proofs.CountLemmas.{kind_here, word_count, union_there, prod_there, read_container}
+use Rattle.size_counts.proofs.ListLemmas.{container_there}
+use Rattle.size_counts.proofs.TurnLemmas.{turn_union, turn_container, turn_name}
 use Rattle.size_counts.proofs.counts.count_of.Goals as goal
 
 pub returns-in-Epsilon : goal.returns-in-Epsilon
@@ -38,16 +41,16 @@ returns-in-Prod c = λ e at.
 
 pub returns-in-Sequence : goal.returns-in-Sequence
 returns-in-Sequence c = λ e at.
-    let is = sequence_there _ c.in-Sequence.ensures in
-    let same : Some e ≡ Some _ = sym at ∙ is.2 in
+    let is = container_there (node_at c.args.tables.now.grammar.rules c.args.node) (read_container c.args.tables.now.grammar.rules c.args.node c.kind.result c.kind.ensures (elim c.in-Sequence.is [
+      | inl sequence ↦ ap is_container sequence
+      | inr a ↦ elim a [
+        | inl set ↦ ap is_container set
+        | inr b ↦ elim b [ inl power ↦ ap is_container power | inr cycle ↦ ap is_container cycle ]
+      ]
+    ])) in
+    let same : Some e ≡ Some _ = sym at ∙ is.3 in
     let e_is : e ≡ _ = cc in
-    subst (λ (x : Expression). Tells c.sequence_count.result (number (grammar c.args.tables.now.grammar) x c.args.m)) (sym e_is)
-    (c.sequence_count.ensures is.0 is.1 is.2
-    (turn_sequence c.args.tables.now.grammar c.args.tables.now.marks.items c.args.tables.now.layers.items c.requires.turn.ready.told c.args.node c.args.m c.args.rank c.args.now.now is.0 is.1 c.requires.turn.marked is.2
-    (c.requires.turn.falls _ is.2) c.requires.turn.now_told c.requires.turn.ready.small))
-
-pub returns-in-Set : goal.returns-in-Set
-returns-in-Set c = λ e at. absurd (no_other c.args.tables.now.grammar c.args.node e c.kind.result c.requires.turn.ready.told.sequences at c.kind.ensures (elim c.in-Set.is [
-  | inl set ↦ ap is_other set
-  | inr others ↦ elim others [ inl power ↦ ap is_other power | inr cycle ↦ ap is_other cycle ]
-]))
+    subst (λ (x : Expression). Tells c.container_count.result (number (grammar c.args.tables.now.grammar) x c.args.m)) (sym e_is)
+    (c.container_count.ensures is.0 is.1 is.2 is.3
+    (turn_container c.args.tables.now.grammar c.args.tables.now.marks.items c.args.tables.now.layers.items c.requires.turn.ready.told c.args.node c.args.m c.args.rank c.args.now.now is.0 is.1 is.2 c.requires.turn.marked is.3
+    (c.requires.turn.falls _ is.3) c.requires.turn.now_told c.requires.turn.ready.small))
