@@ -8,6 +8,6 @@ pub mod StepSplits
 pub mod StepParts
 pub mod StepLast
 pub mod StepForms
-pub mod StepDepth
+pub mod StepNodes
 pub mod WalkerLemmas
 pub mod OpenLemmas

@@ -501,7 +501,7 @@ lists_down counts is (Components node place) n d m cut stands cuts total small s
         let first_here : 0 < number_of_node counts.checked child d = subst (λ (c : Cut). 0 < number_of_node counts.checked c.first d) (sym same) first in
         let behind_here : 0 < number_from counts.checked node (place + 1) m = subst (λ (c : Cut). 0 < tail_number counts.checked c.behind m) (sym same) behind in
         subst (λ (c : Cut). split_measure counts.checked c d m < lists_measure counts.checked (Components node place) n) same
-        (components_down counts.checked is.listable.passed node place child d m n stands.prod at there total small first_here behind_here)
+        (components_down counts.checked is.passed node place child d m n stands.prod at there total small first_here behind_here)
 lists_down counts is (Elements node element card) zero d m cut stands cuts total small some first behind = absurd (cc)
 lists_down counts is (Elements node element card) (suc k) d m cut stands cuts total small some first behind =
     let same : record { first = element; behind = Elements node element (after_one card) } ≡ cut = cc in
@@ -509,4 +509,4 @@ lists_down counts is (Elements node element card) (suc k) d m cut stands cuts to
     let first_here : 0 < number_of_node counts.checked element d = subst (λ (c : Cut). 0 < number_of_node counts.checked c.first d) (sym same) first in
     let behind_here : 0 < tail_number counts.checked (Elements node element (after_one card)) m = subst (λ (c : Cut). 0 < tail_number counts.checked c.behind m) (sym same) behind in
     subst (λ (c : Cut). split_measure counts.checked c d m < lists_measure counts.checked (Elements node element card) (suc k)) same
-    (elements_down counts.checked is.listable.passed node element card d m (suc k) stands.sequence stands.child there (reached_within counts is node stands.reached) total small first_here behind_here some)
+    (elements_down counts.checked is.passed node element card d m (suc k) stands.sequence stands.child there (reached_within counts is node stands.reached) total small first_here behind_here some)

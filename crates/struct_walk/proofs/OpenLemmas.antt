@@ -1,12 +1,12 @@
 -- What is opened, by the listings of nodes and of tails.
-use Rattle.std.proofs.Common.{◌≡◌, ℕ, zero, suc, ◌+◌, ◌-◌, ◌≤◌, ◌<◌, ◌^◌, Bool, true, false, not, List, [], ◌∷◌, ◌++◌, map, length, All, slice_get, Option, Some, None, refl, sym, ap, ◌∙◌, subst, inl, arith}
+use Rattle.std.proofs.Common.{◌≡◌, ℕ, zero, suc, ◌+◌, ◌≤◌, ◌<◌, ◌^◌, Bool, true, false, not, List, [], ◌∷◌, ◌++◌, map, length, All, slice_get, Option, Some, None, refl, sym, ap, ◌∙◌, subst, inl, arith}
 use Rattle.std.specs.Prelude.{IfSome, IfNone, IsTrue, is_some}
 use Rattle.std.specs.Option.{option_and_then}
 use Rattle.std.proofs.lemmas.List.{append_assoc, append-nil, length-map}
 use Rattle.spec_syntax.specs.Rules.{symbol, all_nodes}
 use Rattle.spec_syntax.specs.Nodes.{children_at, name_at, right_node, card_at}
 use Rattle.struct_model.specs.declared.tree.Form5.{Form5}
-use Rattle.struct_model.specs.Structure.{Structure, Eps, Atom, Named, Alt, Tup, parts_of, labels_of_parts}
+use Rattle.struct_model.specs.Structure.{Structure, Eps, Atom, Named, Alt, Tup, part_list, parts_of, labels_of_parts}
 use Rattle.struct_model.specs.Membership.{is_supply}
 use Rattle.struct_model.specs.declared.supplies.Supply.{Supply}
 use Rattle.struct_model.specs.SupplyView.{supply_labels, supply_universe, is_in_order}
@@ -29,11 +29,11 @@ use Rattle.well_founded.proofs.NodesLaws.{name_node_rule}
 use Rattle.well_founded.specs.declared.node.NodeKind.{NodeKind}
 use Rattle.well_founded.specs.declared.node.NodeKind.TheVariants as told
 use Rattle.listing_laws.specs.Lister.{list_epsilon, list_atom, alternatives, each_before, product, sequence, named}
-use Rattle.listing_laws.specs.NodeListing.{HasKind, IsListable, listing_on, rule_on, number_of_node}
+use Rattle.listing_laws.specs.NodeListing.{HasKind, IsListable, listing_on, rule_on}
 use Rattle.listing_laws.proofs.Components.{list_back}
 use Rattle.listing_laws.proofs.KindLemmas.{no_other_kind, rule_is, sequence_is}
 use Rattle.listing_laws.proofs.NodeLemmas.{nodes_are_listed, kind_at, children_at_is}
-use Rattle.size_counts.specs.CountedView.{Counts, IsCounted, IsReachedIn}
+use Rattle.size_counts.specs.CountedView.{Counts, IsCounted}
 use Rattle.struct_walk.specs.declared.tail.Tail.{Tail}
 use Rattle.struct_walk.specs.declared.tail.Cut.{Cut}
 use Rattle.struct_walk.specs.declared.later.Later as later
@@ -42,12 +42,10 @@ use Rattle.struct_walk.specs.declared.later.LaterLists as lists
 use Rattle.struct_walk.specs.declared.later.LaterLists.{LaterLists}
 use Rattle.struct_walk.specs.declared.later.Level.{Level}
 use Rattle.struct_walk.specs.Tails.{IsTail, tail_on, on_splits, cut_of, is_end, open_lengths}
-use Rattle.struct_walk.specs.declared.later.Argument.{Argument}
-use Rattle.struct_walk.specs.After.{components, structures_after, lists_after, parts_after, arguments_behind, argument_after}
-use Rattle.struct_walk.specs.Stands.{IsAsked, IsCut, CanOpen, ArgumentStands, LevelStands, Stands, ListsStand, PartsStand}
-use Rattle.struct_walk.specs.Opened.{Opens, OpensLists, OpensSplit, IsNextArgument, HasNoArgument}
-use Rattle.struct_walk.proofs.Measures.{node_measure, union_measure, lists_measure, split_measure, union_down, lists_down}
-use Rattle.struct_walk.proofs.ReachedNodes.{reached_child}
+use Rattle.struct_walk.specs.After.{structures_after, lists_after, parts_after, arguments_behind}
+use Rattle.struct_walk.specs.Stands.{IsAsked, IsCut, CanOpen, LevelStands, ListsStand, PartsStand}
+use Rattle.struct_walk.specs.Opened.{Opens, OpensLists, OpensSplit, HasNoArgument}
+use Rattle.struct_walk.proofs.Measures.{node_measure, lists_measure, split_measure, lists_down}
 use Rattle.struct_walk.proofs.TailLemmas.{listing_number, tail_length, cut_is, tail_cut, tail_end, last_splits, end_number, open_splits, can_open, lists_size}
 
 -- ---- options
@@ -69,6 +67,10 @@ no_value P (Some x) b test is holds = let e : true ≡ false = test ∙ ap not i
 pub asked_supply : (counts : Counts) (supply : Supply) → IsAsked counts supply → is_supply counts.checked.universe (supply_labels supply) ≡ true
 asked_supply counts supply asked =
     subst (λ universe. is_supply universe (supply_labels supply) ≡ true) asked.universe (in_order_is supply asked.in_order)
+
+-- what is said of the rules of a class
+pub are_listable : (counts : Counts) (supply : Supply) → IsCounted counts → IsAsked counts supply → IsListable counts.checked
+are_listable counts supply is asked = record { passed = is.passed; sequences = asked.sequences }
 
 -- ---- words
 
@@ -230,75 +232,16 @@ made_some f xs all is some = omega (arith, some, ap length is, length-map xs f)
 
 -- ---- Unions
 
-module _ (counts : Counts) (is : IsCounted counts) (node : ℕ) (supply : Supply) (reached : IsReachedIn counts node) (union : HasKind counts.checked node told.Union)
-    (asked : IsAsked counts supply) (some : 0 < length (listing_on counts.checked node (supply_labels supply))) (n : ℕ) (long : n ≡ length (supply_labels supply)) where
-  by_arguments : listing_on counts.checked node (supply_labels supply) ≡ arguments_behind counts.checked node 0 (supply_labels supply)
-  by_arguments = nodes_are_listed.union counts.checked node (supply_labels supply) is.listable.passed (asked_supply counts supply asked) union
+module _ (counts : Counts) (is : IsCounted counts) (node : ℕ) (supply : Supply) (union : HasKind counts.checked node told.Union) (asked : IsAsked counts supply) where
+  -- a Union has the structures of all its arguments
+  pub by_arguments : listing_on counts.checked node (supply_labels supply) ≡ arguments_behind counts.checked node 0 (supply_labels supply)
+  by_arguments = nodes_are_listed.union counts.checked node (supply_labels supply) is.passed (asked_supply counts supply asked) union
 
   -- an argument has a structure
-  pub some_argument : HasNoArgument counts.checked node 0 n → ⊥
-  some_argument none =
+  pub some_argument : (n : ℕ) → n ≡ length (supply_labels supply) → 0 < length (listing_on counts.checked node (supply_labels supply)) → HasNoArgument counts.checked node 0 n → ⊥
+  some_argument n long some none =
       let nothing : listing_on counts.checked node (supply_labels supply) ≡ [] = by_arguments ∙ none (supply_labels supply) (asked_supply counts supply asked) (sym long) in
       omega (arith, some, ap length nothing)
-
-  module _ (k child : ℕ) (next : IsNextArgument counts.checked node 0 n k) (grammar : Checked) (same : grammar ≡ counts.checked)
-      (at : slice_get (children_at grammar.rules node) (k - 1) ≡ Some child) where
-    here : slice_get (children_at counts.checked.rules node) (k - 1) ≡ Some child
-    here = subst (λ (g : Checked). slice_get (children_at g.rules node) (k - 1) ≡ Some child) same at
-
-    child_is : next.child ≡ child
-    child_is = let e : Some next.child ≡ Some child = sym next.at ∙ here in cc
-
-    some_number : 0 < number_of_node counts.checked child (length (supply_labels supply))
-    some_number =
-        subst (λ (m : ℕ). 0 < number_of_node counts.checked child m) long (subst (λ (m : ℕ). 0 < number_of_node counts.checked m n) child_is next.some)
-
-    pub argument_reached : IsReachedIn counts child
-    argument_reached = reached_child counts is node (k - 1) child reached here
-
-    pub argument_some : 0 < length (listing_on counts.checked child (supply_labels supply))
-    argument_some =
-        subst (λ (m : ℕ). 0 < m) (sym (listing_number counts.checked is.listable.passed child (supply_labels supply) (asked_supply counts supply asked))) some_number
-
-    pub argument_down : node_measure counts.checked child (length (supply_labels supply)) < union_measure counts.checked node (length (supply_labels supply))
-    argument_down = union_down counts.checked is.listable.passed node (k - 1) child (length (supply_labels supply)) union here (omega (arith, asked.within, is.small)) some_number
-
-    by_argument : listing_on counts.checked node (supply_labels supply)
-        ≡ map (Alt k) (listing_on counts.checked child (supply_labels supply)) ++ arguments_behind counts.checked node k (supply_labels supply)
-    by_argument =
-        by_arguments
-        ∙ next.passes (supply_labels supply) (asked_supply counts supply asked) (sym long)
-        ∙ ap (λ (m : ℕ). map (Alt k) (listing_on counts.checked m (supply_labels supply)) ++ arguments_behind counts.checked node k (supply_labels supply)) child_is
-
-    -- where it is the last one that has a structure
-    pub last_argument : HasNoArgument counts.checked node k n
-        → map (Alt k) (listing_on counts.checked child (supply_labels supply)) ≡ listing_on counts.checked node (supply_labels supply)
-    last_argument none =
-        sym (by_argument
-        ∙ ap (λ ss. map (Alt k) (listing_on counts.checked child (supply_labels supply)) ++ ss) (none (supply_labels supply) (asked_supply counts supply asked) (sym long))
-        ∙ append-nil (map (Alt k) (listing_on counts.checked child (supply_labels supply))))
-
-    module _ (inner now : Later) (within boxed : Structure) (copied : Supply) (argument : Argument) (copy : copied ≡ supply) (same_later : now ≡ inner)
-        (same_within : boxed ≡ within) (same_argument : argument ≡ record { node = node; number = k; supply = copied })
-        (opens : Opens counts (listing_on counts.checked child (supply_labels supply)) (inner, within)) where
-      -- the first structure and those that come later
-      pub argument_whole : listing_on counts.checked node (supply_labels supply) ≡ Alt k boxed ∷ argument_after counts.checked argument now boxed
-      argument_whole =
-          by_argument
-          ∙ ap (λ ss. map (Alt k) ss ++ arguments_behind counts.checked node k (supply_labels supply)) opens.whole
-          ∙ (λ i. Alt k (sym same_within i) ∷ map (Alt k) (structures_after counts.checked (sym same_later i) (sym same_within i))
-          ++ arguments_behind counts.checked node k (supply_labels (sym copy i)))
-          ∙ ap (λ (a : Argument). Alt k boxed ∷ argument_after counts.checked a now boxed) (sym same_argument)
-
-      pub argument_stands : (Alt k boxed ≡ Alt argument.number boxed) × (Stands counts now boxed × ArgumentStands counts argument)
-      argument_stands = (
-        ap (λ (a : Argument). Alt a.number boxed) (sym same_argument),
-        (
-          subst (λ (s : Structure). Stands counts now s) (sym same_within) (subst (λ (l : Later). Stands counts l within) (sym same_later) opens.stands),
-          subst (λ (a : Argument). ArgumentStands counts a) (sym same_argument)
-              (record { reached = reached; union = union; asked = subst (λ (s : Supply). IsAsked counts s) (sym copy) asked }),
-        ),
-      )
 
 -- ---- lists of components
 
@@ -345,7 +288,7 @@ module _ (counts : Counts) (is : IsCounted counts) (tail : Tail) (supply : Suppl
       last_down =
           let down = lists_down counts is tail (length labels) (length labels) 0 cut stands cuts (omega arith) (omega (arith, asked.within, is.small))
           (subst (λ (m : ℕ). 0 < m) (tail_length counts is tail labels stands supplied) some)
-          (subst (λ (m : ℕ). 0 < m) (listing_number counts.checked is.listable.passed cut.first labels supplied) last_some)
+          (subst (λ (m : ℕ). 0 < m) (listing_number counts.checked is.passed cut.first labels supplied) last_some)
           (end_number counts is cut.behind is_cut.behind ends) in
           omega (arith, down)
 
@@ -396,10 +339,10 @@ module _ (counts : Counts) (is : IsCounted counts) (tail : Tail) (supply : Suppl
       opening = first_opens (split_into part rest) left whole
 
       pub part_asked : IsTrue (is_in_order part) → supply_universe part ≡ supply_universe supply → IsAsked counts part
-      part_asked in_order universe = record { in_order = in_order; universe = universe ∙ asked.universe; within = opening.part }
+      part_asked in_order universe = record { sequences = asked.sequences; in_order = in_order; universe = universe ∙ asked.universe; within = opening.part }
 
       pub rest_asked : IsTrue (is_in_order rest) → supply_universe rest ≡ supply_universe supply → IsAsked counts rest
-      rest_asked in_order universe = record { in_order = in_order; universe = universe ∙ asked.universe; within = opening.rest }
+      rest_asked in_order universe = record { sequences = asked.sequences; in_order = in_order; universe = universe ∙ asked.universe; within = opening.rest }
 
       pub part_some : 0 < length (listing_on counts.checked cut.first (supply_labels part))
       part_some = opening.first
@@ -413,7 +356,7 @@ module _ (counts : Counts) (is : IsCounted counts) (tail : Tail) (supply : Suppl
           lists_down counts is tail (length labels) (length (supply_labels part)) (length (supply_labels rest)) cut stands cuts (split_total (split_into part rest) left whole)
           (omega (arith, asked.within, is.small))
           (subst (λ (m : ℕ). 0 < m) (tail_length counts is tail labels stands supplied) some)
-          (subst (λ (m : ℕ). 0 < m) (listing_number counts.checked is.listable.passed cut.first (supply_labels part) (asked_supply counts part of_part)) opening.first)
+          (subst (λ (m : ℕ). 0 < m) (listing_number counts.checked is.passed cut.first (supply_labels part) (asked_supply counts part of_part)) opening.first)
           (subst (λ (m : ℕ). 0 < m) (tail_length counts is cut.behind (supply_labels rest) is_cut.behind (asked_supply counts rest of_rest)) opening.others)
 
       module _ (opened : Later × LaterLists) (others_now : LaterLists) (copied : Supply) (walk : Walk) (level : Level) (before after : List Structure)
@@ -467,21 +410,16 @@ module _ (counts : Counts) (is : IsCounted counts) (tail : Tail) (supply : Suppl
           is.small,
         )
 
-    pub components_whole : map (λ ss. Tup form (parts_of ss)) (tail_on counts.checked tail (supply_labels supply))
-        ≡ Tup form (parts_of after) ∷ map (λ ss. Tup form (parts_of ss)) (lists_after counts.checked now (components (Tup form (parts_of after))))
-    components_whole =
-        ap (map (λ ss. Tup form (parts_of ss))) opens.whole
-        ∙ (λ i. Tup form (parts_of (sym put_alone i)) ∷ map (λ ss. Tup form (parts_of ss)) (lists_after counts.checked (sym same i) (as_told i)))
+    pub components_open : (p : _) → Opens counts (map (λ ss. Tup form (parts_of ss)) (tail_on counts.checked tail (supply_labels supply))) (later.Components' p now, Tup form (parts_of after))
+    components_open p = record {
+      whole =
+          ap (map (λ ss. Tup form (parts_of ss))) opens.whole
+          ∙ (λ i. Tup form (parts_of (sym put_alone i)) ∷ map (λ ss. Tup form (parts_of ss)) (lists_after counts.checked (sym same i) (as_told i)));
+      stands = subst (λ (ss : List Structure). ListsStand counts now ss) as_told (subst (λ (l : LaterLists). ListsStand counts l opens.added) (sym same) opens.stands);
+    }
       where
-        as_told : opens.added ≡ components (Tup form (parts_of after))
+        as_told : opens.added ≡ part_list (parts_of after)
         as_told = sym put_alone ∙ sym (list_back after)
-
-    pub components_stand : (Tup form (parts_of after) ≡ Tup form (parts_of (components (Tup form (parts_of after))))) × ListsStand counts now (components (Tup form (parts_of after)))
-    components_stand = (
-      ap (λ ss. Tup form (parts_of ss)) (sym (list_back after)),
-      subst (λ (ss : List Structure). ListsStand counts now ss) (sym put_alone ∙ sym (list_back after))
-          (subst (λ (l : LaterLists). ListsStand counts l opens.added) (sym same) opens.stands),
-    )
 
 -- ---- the last component of a Prod
 

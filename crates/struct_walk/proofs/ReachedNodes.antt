@@ -25,7 +25,7 @@ module _ (counts : Counts) (is : IsCounted counts) where
   right_within : (number : ℕ) → counts.checked.start ≡ Some number → right_node counts.checked.rules number < length (all_nodes counts.checked.rules)
   right_within number start =
       let within : (1 ≤ number) × (number ≤ length counts.checked.rules) =
-      subst (λ (found : Option ℕ). IfSome found (λ k. (1 ≤ k) × (k ≤ length counts.checked.rules))) start is.listable.passed.started in
+      subst (λ (found : Option ℕ). IfSome found (λ k. (1 ≤ k) × (k ≤ length counts.checked.rules))) start is.passed.started in
       let right = some_right counts.checked.rules number within.0 within.1 in
       slice_get_within (all_nodes counts.checked.rules) (right_node counts.checked.rules number) right.0
       (right_node_is counts.checked.rules number right.0 right.1)
@@ -65,7 +65,7 @@ module _ (counts : Counts) (is : IsCounted counts) where
   pub reached_child : (node place child : ℕ) → IsReachedIn counts node → slice_get (children_at counts.checked.rules node) place ≡ Some child
       → IsReachedIn counts child
   reached_child node place child reached at =
-      let there = node_there counts.checked is.listable.passed node (reached_within node reached) in
+      let there = node_there counts.checked is.passed node (reached_within node reached) in
       let own : slice_get (children_of node there.0) place ≡ Some child =
       ap (λ (nodes : List ℕ). slice_get nodes place) (sym (children_at_is counts.checked.rules node there.0 there.1)) ∙ at in
       reached_below node child there.0 reached there.1 (child_below node place child there.0 own)
@@ -79,6 +79,3 @@ module _ (counts : Counts) (is : IsCounted counts) where
       let is_below : below counts.checked.rules node (expr.Name rule.name) ≡ right ∷ [] =
       ap (λ (o : Option ℕ). option_map_or (λ k. right_node counts.checked.rules k ∷ []) o []) rule.numbered in
       reached_below node right (expr.Name rule.name) reached rule.at (subst (λ (nodes : List ℕ). IsIn right nodes) (sym is_below) (inl refl))
-
-  pub reached_start : (sym : ℕ) → counts.checked.start ≡ Some sym → IsReachedIn counts (right_node counts.checked.rules sym)
-  reached_start number start = record { sym = number; start = start; reached = inl refl }

@@ -38,7 +38,7 @@ module _ (counts : Counts) (whole : LaterLists) (inner : Later) (is : whole ≡ 
     popped_long : length popped ≡ place
     popped_long = ap length front.0 ∙ length-take-le place before within
 
-    from_place : drop place before ≡ component ∷ []
+    pub from_place : drop place before ≡ component ∷ []
     from_place = one.alone ∙ ap (λ s. s ∷ []) (sym front.1)
 
     later_are : lists_after counts.checked whole (drop place before) ≡ map (λ t. t ∷ []) (structures_after counts.checked inner component)

@@ -1,5 +1,5 @@
 -- A step on a list of components, from one of them on.
-use Rattle.std.proofs.Common.{◌≡◌, ℕ, zero, suc, ◌+◌, ◌≤◌, ◌<◌, ◌^◌, List, [], ◌∷◌, ◌++◌, map, take, drop, length, Bool, true, false, Some, None, refl, sym, ap, ◌∙◌, subst, inl, arith}
+use Rattle.std.proofs.Common.{◌≡◌, ℕ, zero, suc, ◌+◌, ◌≤◌, ◌<◌, ◌^◌, List, [], ◌∷◌, ◌++◌, map, take, drop, length, Bool, true, false, refl, sym, ap, ◌∙◌, subst, inl, arith}
 use Rattle.std.proofs.Math.Seq.{append_snoc, take-append_seam, drop-append_seam}
 use Rattle.std.proofs.lemmas.List.{length-append, length-take-le}
 use Rattle.lists.specs.Enumeration.{IsIn}
@@ -16,7 +16,7 @@ use Rattle.struct_walk.specs.declared.later.Level.{Level}
 use Rattle.struct_walk.specs.Tails.{tail_on, on_splits}
 use Rattle.struct_walk.specs.After.{at_level, structures_after, lists_after, parts_after}
 use Rattle.struct_walk.specs.Stands.{LevelStands, Stands, ListsStand, PartsStand, AreSmall, AreSmallLists}
-use Rattle.struct_walk.specs.Opened.{StepsTo, OpensLists, ListsStepOn, ListsEnd, PartsStepOn, PartsStepTo, PartsOpen}
+use Rattle.struct_walk.specs.Opened.{Next, OpensLists, ListsStepOn, ListsEnd, PartsStepOn, PartsStepTo, PartsOpen}
 use Rattle.struct_walk.proofs.StepSplits.{first_at_level}
 
 -- ---- fronts of lists
@@ -167,7 +167,7 @@ module _ (counts : Counts) (level : Level) (first : Later) (others : LaterLists)
 
       -- the next component is put there, and the others are opened again
       pub component_steps : (first' : Later) (next : Structure) (pushed after : List Structure) (rest : Supply) (others' : LaterLists)
-          → StepsTo counts first component first' (Some next) → pushed ≡ popped ++ next ∷ [] → rest ≡ level.rest
+          → Next counts (structures_after counts.checked first component) first' next true → pushed ≡ popped ++ next ∷ [] → rest ≡ level.rest
           → OpensLists counts (tail_on counts.checked level.cut.behind (supply_labels rest)) pushed after others'
           → PartsStepOn counts place (parts_after counts.checked level first others (drop place before)) before level first' others' after
       component_steps first' next pushed after rest others' steps put same opens =
@@ -186,11 +186,11 @@ module _ (counts : Counts) (level : Level) (first : Later) (others : LaterLists)
           }
 
       -- no component comes next, and the split that comes next is opened
-      pub split_steps : (first' first'' : Later) (level' : Level) (others' : LaterLists) (after : List Structure) (opened : Bool)
-          → StepsTo counts first component first' None
+      pub split_steps : (first'' : Later) (level' : Level) (others' : LaterLists) (after : List Structure) (opened : Bool)
+          → structures_after counts.checked first component ≡ []
           → PartsOpen counts (on_splits counts.checked level.cut level.splits.left) popped level' first'' others' after opened
           → PartsStepTo counts place (parts_after counts.checked level first others (drop place before)) before level' first'' others' after opened
-      split_steps first' first'' level' others' after true none opens =
+      split_steps first'' level' others' after true none opens =
           let front = front_of opens.added in
           record {
             kept = ap (take place) opens.put ∙ front.0;
@@ -201,7 +201,7 @@ module _ (counts : Counts) (level : Level) (first : Later) (others : LaterLists)
             level_stands = opens.level_stands;
             stand = subst (λ (ss : List Structure). PartsStand counts first'' others' ss) (sym (ap (drop place) opens.put ∙ front.1)) opens.stand;
           }
-      split_steps first' first'' level' others' after false none opens = record {
+      split_steps first'' level' others' after false none opens = record {
         kept = opens.kept ∙ front_left.0;
         none = left_are ∙ ap (at_level counts.checked level) none ∙ opens.none;
       }

@@ -1,5 +1,5 @@
 -- Lists of components on a split and on those to come.
-use Rattle.std.proofs.Common.{◌≡◌, ◌<◌, List, ◌∷◌, ◌++◌, map, length, Option, Some, IfSome, All, sym, ap, ◌∙◌, subst, arith}
+use Rattle.std.proofs.Common.{◌≡◌, ◌<◌, List, ◌∷◌, ◌++◌, map, length, All, sym, ap, ◌∙◌, subst, arith}
 use Rattle.std.specs.Prelude.{IsTrue}
 use Rattle.std.proofs.lemmas.List.{append_assoc}
 use Rattle.std.proofs.lemmas.List.Elements.{All-tail}
@@ -18,9 +18,6 @@ use Rattle.struct_walk.specs.Tails.{tail_on, on_splits}
 use Rattle.struct_walk.specs.After.{at_level, structures_after, lists_after, parts_after}
 use Rattle.struct_walk.specs.Stands.{IsAsked, CanOpen, LevelStands}
 use Rattle.struct_walk.specs.Opened.{OpensSplit, OpensParts}
-
-pub holds_of : {X : Type 0} (P : X → Type 0) (o : Option X) (x : X) → o ≡ Some x → IfSome o P → P x
-holds_of {X} P o x is holds = subst (λ (p : Option X). IfSome p P) is holds
 
 pub holds_first : {X : Type 0} (P : X → Type 0) (x : X) (xs : List X) → All P (x ∷ xs) → P x
 holds_first P x xs all = all 0 x (omega arith)
@@ -44,10 +41,10 @@ module _ (counts : Counts) (level : Level) (stands : LevelStands counts level) (
   next_can = holds_first (CanOpen counts level.cut) (split_into part rest) walk.left all_can
 
   pub part_asked : IsTrue (is_in_order part) → supply_universe part ≡ level.splits.universe → IsAsked counts part
-  part_asked in_order universe = record { in_order = in_order; universe = universe ∙ stands.universe; within = next_can.part }
+  part_asked in_order universe = record { sequences = stands.asked.sequences; in_order = in_order; universe = universe ∙ stands.universe; within = next_can.part }
 
   pub rest_asked : IsTrue (is_in_order rest) → supply_universe rest ≡ level.splits.universe → IsAsked counts rest
-  rest_asked in_order universe = record { in_order = in_order; universe = universe ∙ stands.universe; within = next_can.rest }
+  rest_asked in_order universe = record { sequences = stands.asked.sequences; in_order = in_order; universe = universe ∙ stands.universe; within = next_can.rest }
 
   pub next_parts : (copied : Supply) (before after : List Structure) (first : Later) (others : LaterLists) → copied ≡ rest → walk.universe ≡ level.splits.universe → IsAsked counts rest
       → OpensSplit counts (listing_on counts.checked level.cut.first (supply_labels part)) (tail_on counts.checked level.cut.behind (supply_labels rest)) before after (first, others)

@@ -1,12 +1,12 @@
 -- Whether a Sequence with a bound has lists of a size, by the numbers of components that the bound admits.
-use Rattle.std.proofs.Common.{◌≡◌, ℕ, ◌≤◌, ◌<◌, inl, inr, true, ◌&&◌, nat_le, [], Some, None, Option, refl, ap, sym, ◌∙◌, subst, arith, slice_get}
+use Rattle.std.proofs.Common.{◌≡◌, ℕ, ◌≤◌, ◌<◌, inl, inr, true, ◌&&◌, nat_le, [], Some, None, Option, ap, sym, ◌∙◌, subst, arith, slice_get}
 use Rattle.std.specs.Option.{option_map_or}
 use Rattle.std.proofs.lemmas.Bool.{cases_lt}
 use Rattle.std.proofs.lemmas.Bool.Decides.{nat_tests}
 use Rattle.spec_syntax.specs.declared.expr.Card.{Card}
 use Rattle.spec_syntax.specs.Card.{is_within, admits}
 use Rattle.spec_syntax.specs.Expression.{Expression}
-use Rattle.spec_syntax.specs.Nodes.{card_at, arguments_of}
+use Rattle.spec_syntax.specs.Nodes.{arguments_of}
 use Rattle.struct_model.specs.Membership.{supply}
 use Rattle.well_founded.specs.Checked.{Checked, IsChecked, grammar}
 use Rattle.listing_laws.specs.Numbers.{exactly}
@@ -48,7 +48,7 @@ module _ (counts : Counts) (is : IsCounted counts) (node element : ℕ) (card : 
   checked = counts.checked
 
   abbrev passed : IsChecked counts.checked
-  passed = is.listable.passed
+  passed = is.passed
 
   abbrev is_element : IsElement counts.checked element
   is_element = record { node = node; sequence = h.sequence; child = h.child }
@@ -91,11 +91,3 @@ module _ (counts : Counts) (is : IsCounted counts) (node element : ℕ) (card : 
       let found : HasLists checked passed element is_element (exactly c) (supply checked.universe n)
       = has_lists checked passed element is_element (exactly c) (supply checked.universe n) (supplied checked n) lists in
       found.each card (subst (λ k. admits card k ≡ true) (sym (own_alone c found.count found.admitted)) (admits_between card c n low high))
-
-  -- the Sequence's own bound admits such a number
-  pub own_admits : (own : Card) (c n : ℕ) → card_at counts.checked.rules node ≡ Some own → c ≤ most_components card n → is_within own.high c ≡ true
-  own_admits own c n at high = h.below own c at (within card.high high)
-    where
-      within : (most : Option ℕ) → c ≤ most_components (record { low = card.low; high = most }) n → is_within most c ≡ true
-      within None h = refl
-      within (Some most) h = grind (arith, nat_tests)

@@ -140,7 +140,7 @@ module _ (counts : Counts) (is : IsCounted counts) where
   checked = counts.checked
 
   abbrev passed : IsChecked counts.checked
-  passed = is.listable.passed
+  passed = is.passed
 
   is_element : (node element : ℕ) (card : Card) → AreElements counts node element card → IsElement checked element
   is_element node element card h = record { node = node; sequence = h.sequence; child = h.child }

@@ -160,7 +160,7 @@ module _ (checked : Checked) (passed : IsChecked checked) where
           each = λ other admitted.
               some_item (lists_on checked element other u) sequence (Tup form.Sequence ps)
               (subst (IsIn (Tup form.Sequence ps)) (lists_listed other u in_order)
-              (((well_founded_is_listed.bounds g kind.Sequence e node.card other passed.spec passed.well_founded there).lists u in_order).complete (Tup form.Sequence ps)
+              (((well_founded_is_listed.containers g kind.Sequence kind.Sequence e node.card other passed.spec passed.well_founded there).lists u in_order).complete (Tup form.Sequence ps)
               (and_from (admits other (length (part_list ps))) (are_of g e ps) admitted parts.1, labelled)));
         }
     of_other card u s in_order of labelled = absurd (true≢false (sym of))

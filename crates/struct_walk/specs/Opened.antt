@@ -1,18 +1,17 @@
 -- What is opened, and what a step comes to.
-use Rattle.std.specs.Prelude.{◌≡◌, ℕ, ◌-◌, ◌≤◌, ◌<◌, Bool, true, false, List, [], ◌∷◌, ◌++◌, map, take, drop, length, slice_get, Option, Some, None, IsTrue}
+use Rattle.std.specs.Prelude.{◌≡◌, ℕ, ◌-◌, ◌≤◌, ◌<◌, Bool, true, false, List, [], ◌∷◌, ◌++◌, map, take, drop, length, slice_get, Some, IsTrue}
 use Rattle.spec_syntax.specs.Nodes.{children_at}
-use Rattle.struct_model.specs.declared.tree.Form5.{Form5}
-use Rattle.struct_model.specs.Structure.{Structure, Alt, Tup, parts_of}
+use Rattle.struct_model.specs.Structure.{Structure, Alt}
+use Rattle.struct_model.specs.declared.supplies.Supply.{Supply}
 use Rattle.struct_model.specs.Membership.{is_supply}
 use Rattle.well_founded.specs.Checked.{Checked}
 use Rattle.listing_laws.specs.NodeListing.{listing_on, number_of_node}
 use Rattle.size_counts.specs.CountedView.{Counts}
 use Rattle.struct_walk.specs.declared.later.Later.{Later}
 use Rattle.struct_walk.specs.declared.later.LaterLists.{LaterLists}
-use Rattle.struct_walk.specs.declared.later.Argument.{Argument}
 use Rattle.struct_walk.specs.declared.later.Level.{Level}
 use Rattle.struct_walk.specs.After.{arguments_behind, argument_after, structures_after, lists_after, parts_after}
-use Rattle.struct_walk.specs.Stands.{ArgumentStands, LevelStands, Stands, ListsStand, PartsStand}
+use Rattle.struct_walk.specs.Stands.{LevelStands, Stands, ListsStand, PartsStand}
 
 -- these are the structure and all that comes later
 pub record Opens (counts : Counts) (all : List Structure) (opened : Later × Structure) : Type 0 where
@@ -50,49 +49,16 @@ pub record IsNextArgument (checked : Checked) (node number n k : ℕ) : Type 0 w
 abbrev pub HasNoArgument : Checked → ℕ → ℕ → ℕ → Type 0
 HasNoArgument checked node number n = (u : List ℕ) → IsTrue (is_supply checked.universe u) → length u ≡ n → arguments_behind checked node number u ≡ []
 
--- the structure that comes next after s, or none where nothing comes
-abbrev pub StepsTo : Counts → Later → Structure → Later → Option Structure → Type 0
-StepsTo counts later s later' None = structures_after counts.checked later s ≡ []
-StepsTo counts later s later' (Some t) = (structures_after counts.checked later s ≡ t ∷ structures_after counts.checked later' t) × Stands counts later' t
+-- of these structures the first stands in its place and all others come later, or there are none
+abbrev pub Next : Counts → List Structure → Later → Structure → Bool → Type 0
+Next counts all later s true = (all ≡ s ∷ structures_after counts.checked later s) × Stands counts later s
+Next counts all later s false = all ≡ []
 
--- the structure that comes next stands in its place, or none comes
-abbrev pub StepsOn : Counts → Later → Structure → Later → Structure → Bool → Type 0
-StepsOn counts later s later' t true = StepsTo counts later s later' (Some t)
-StepsOn counts later s later' t false = StepsTo counts later s later' None
-
--- the same of what stands within a structure of this form
-pub record WithinNext (counts : Counts) (form : Structure → Structure) (later : Later) (t : Structure) (later' : Later) (s : Structure) : Type 0 where
-  pub within : Structure
-  pub is : s ≡ form within
-  pub steps : StepsTo counts later t later' (Some within)
-
-abbrev pub StepsWithin : Counts → (Structure → Structure) → Later → Structure → Later → Option Structure → Type 0
-StepsWithin counts form later t later' None = StepsTo counts later t later' None
-StepsWithin counts form later t later' (Some s) = WithinNext counts form later t later' s
-
--- the structures are one of an argument of the Union and all that come later
-pub record OpensArgument (counts : Counts) (all : List Structure) (argument : Argument) (later : Later) (s : Structure) : Type 0 where
-  pub within : Structure
-  pub is : s ≡ Alt argument.number within
-  pub whole : all ≡ s ∷ argument_after counts.checked argument later within
-  pub stands : Stands counts later within
-  pub can_go_on : ArgumentStands counts argument
-
--- the structures of arguments, if there are any, and of what is left
-abbrev pub ArgumentsOpen : Counts → List Structure → Argument → Later → Option Structure → Type 0
-ArgumentsOpen counts all argument later None = all ≡ []
-ArgumentsOpen counts all argument later (Some s) = OpensArgument counts all argument later s
-
--- the list of components that comes next, in its form, or none where none comes
-pub record ComponentsNext (counts : Counts) (form : Form5) (later : LaterLists) (ss : List Structure) (later' : LaterLists) (s : Structure) : Type 0 where
-  pub parts : List Structure
-  pub is : s ≡ Tup form (parts_of parts)
-  pub next : lists_after counts.checked later ss ≡ parts ∷ lists_after counts.checked later' parts
-  pub stand : ListsStand counts later' parts
-
-abbrev pub ComponentsStepTo : Counts → Form5 → LaterLists → List Structure → LaterLists → Option Structure → Type 0
-ComponentsStepTo counts form later ss later' None = lists_after counts.checked later ss ≡ []
-ComponentsStepTo counts form later ss later' (Some s) = ComponentsNext counts form later ss later' s
+-- the same of structures of a Union's arguments
+abbrev pub NextArgument : Counts → ℕ → Supply → List Structure → ℕ → Later → Structure → Bool → Type 0
+NextArgument counts node supply all argument later s true =
+    (all ≡ Alt argument s ∷ argument_after counts.checked node supply (structures_after counts.checked later) (Alt argument s)) × Stands counts later s
+NextArgument counts node supply all argument later s false = all ≡ []
 
 -- the list that comes next from the place on stands there now
 pub record ListsStepOn (counts : Counts) (place : ℕ) (later : LaterLists) (before : List Structure) (later' : LaterLists) (after : List Structure) : Type 0 where

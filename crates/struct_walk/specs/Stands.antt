@@ -1,6 +1,7 @@
 -- What is known of a structure and of what comes later, so that the next structure can be reached.
-use Rattle.std.specs.Prelude.{◌≡◌, ◌≤◌, ◌<◌, ◌^◌, List, [], ◌∷◌, length, All, IsTrue}
-use Rattle.struct_model.specs.Structure.{Structure, Named, Alt, Tup, parts_of, size, labels_of_parts}
+use Rattle.std.specs.Prelude.{◌≡◌, ℕ, ◌≤◌, ◌<◌, ◌^◌, List, [], ◌∷◌, length, All, IsTrue}
+use Rattle.spec_syntax.specs.Rules.{are_sequences}
+use Rattle.struct_model.specs.Structure.{Structure, Named, Alt, Tup, part_list, parts_of, size, labels_of_parts}
 use Rattle.struct_model.specs.declared.supplies.Supply.{Supply}
 use Rattle.struct_model.specs.SupplyView.{supply_labels, supply_universe, is_in_order}
 use Rattle.well_founded.specs.declared.node.NodeKind.TheVariants as told
@@ -13,13 +14,12 @@ use Rattle.struct_walk.specs.declared.later.Later as later
 use Rattle.struct_walk.specs.declared.later.Later.{Later}
 use Rattle.struct_walk.specs.declared.later.LaterLists as lists
 use Rattle.struct_walk.specs.declared.later.LaterLists.{LaterLists}
-use Rattle.struct_walk.specs.declared.later.Argument.{Argument}
 use Rattle.struct_walk.specs.declared.later.Level.{Level}
 use Rattle.struct_walk.specs.Tails.{tail_on, IsTail}
-use Rattle.struct_walk.specs.After.{inside, components}
 
--- a supply of the class's universe with no more labels than the greatest size
+-- a supply of the class's universe with no more labels than the greatest size. No container but a Sequence stands in the rules
 pub record IsAsked (counts : Counts) (supply : Supply) : Type 0 where
+  pub sequences : IsTrue (are_sequences counts.checked.rules)
   pub in_order : IsTrue (is_in_order supply)
   pub universe : supply_universe supply ≡ counts.checked.universe
   pub within : length (supply_labels supply) ≤ counts.size
@@ -44,20 +44,33 @@ pub record LevelStands (counts : Counts) (level : Level) : Type 0 where
   pub universe : level.splits.universe ≡ counts.checked.universe
   pub splits : All (CanOpen counts level.cut) level.splits.left
 
--- an argument of a Union, and a supply that can be asked for
-pub record ArgumentStands (counts : Counts) (argument : Argument) : Type 0 where
-  pub reached : IsReachedIn counts argument.node
-  pub union : HasKind counts.checked argument.node told.Union
-  pub asked : IsAsked counts argument.supply
+-- a Union, and a supply that can be asked for
+pub record CanGoOn (counts : Counts) (node : ℕ) (supply : Supply) : Type 0 where
+  pub reached : IsReachedIn counts node
+  pub union : HasKind counts.checked node told.Union
+  pub asked : IsAsked counts supply
+
+-- the structure inside all rules
+abbrev pub unnamed : Structure → Structure
+unnamed (Named rule s) = unnamed s
+unnamed s = s
+
+-- what stands in an argument, and that the arguments behind it can be reached
+abbrev pub ArgumentStands : Counts → ℕ → Supply → (Structure → Type 0) → Structure → Type 0
+ArgumentStands counts node supply Inside (Alt argument s) = Inside s × CanGoOn counts node supply
+ArgumentStands counts node supply Inside s = Unit {0}
+
+-- the same of components
+abbrev pub ComponentsStand : (List Structure → Type 0) → Structure → Type 0
+ComponentsStand Lists (Tup form parts) = Lists (part_list parts)
+ComponentsStand Lists s = Unit {0}
 
 abbrev mutual
-  -- the structure is of the form that is told, and all that comes later can be reached
+  -- all that comes later can be reached
   pub Stands : Counts → Later → Structure → Type 0
   Stands counts later.Nothing s = Unit {0}
-  Stands counts (later.Named' number p inner) s = (s ≡ Named number (inside s)) × Stands counts inner (inside s)
-  Stands counts (later.Chosen' number p inner) s = (s ≡ Alt number (inside s)) × Stands counts inner (inside s)
-  Stands counts (later.Argument' argument p inner) s = (s ≡ Alt argument.value.number (inside s)) × (Stands counts inner (inside s) × ArgumentStands counts argument.value)
-  Stands counts (later.Components' form p inner) s = (s ≡ Tup form (parts_of (components s))) × ListsStand counts inner (components s)
+  Stands counts (later.Argument' node supply p inner) s = ArgumentStands counts node supply (Stands counts inner) (unnamed s)
+  Stands counts (later.Components' p inner) s = ComponentsStand (ListsStand counts inner) (unnamed s)
 
   pub ListsStand : Counts → LaterLists → List Structure → Type 0
   ListsStand counts lists.Nothing ss = ss ≡ []

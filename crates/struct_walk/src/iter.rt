@@ -1,7 +1,7 @@
 //! Walks over the members of a class.
-ghost use Rattle.std.specs.Prelude.{◌≡◌, ℕ, ◌∷◌, [], Some, false, true, drop, slice_get, IfOk, IfSome, IfNone, OnOk, OnErr};
+ghost use Rattle.std.specs.Prelude.{◌≡◌, ℕ, ◌∷◌, [], Some, false, true, drop, slice_get, IfOk, IfSome, IfNone, OnOk, OnErr, IsTrue};
 ghost use Rattle.spec_syntax.specs.Expression.{Name};
-ghost use Rattle.spec_syntax.specs.Rules.{rule_name};
+ghost use Rattle.spec_syntax.specs.Rules.{are_sequences, rule_name};
 ghost use Rattle.struct_model.specs.Bounded.{listing};
 ghost use Rattle.struct_model.specs.Membership.{supply};
 ghost use Rattle.well_founded.specs.Checked.{grammar as grammar_of};
@@ -47,6 +47,7 @@ impl Iter {
     ///
     /// Memory may be wanting.
     pub fn first(alloc: Global, counted: Counted) -> Result<Iter, AllocError>
+        requires { IsTrue (are_sequences counted.checked.rules) }
         ensures counts { IfOk result (λ iter. iter.counts ≡ counted) }
         ensures rest { (sym : ℕ) → counted.checked.start ≡ Some sym → IfOk result (λ iter. iter.rest ≡ listing_of_rule counted.checked sym counted.size) }
         ensures whole { IfOk result (λ iter. iter.is_broken ≡ false) }

@@ -2,32 +2,19 @@
 
 use crate::tail::Cut;
 use splits::LengthWalk;
-use struct_model::{Form5, Supply};
+use struct_model::Supply;
 
-/// What comes later than a structure that is held beside it, in so far as it isn't told by the structure.
+/// What comes later than a structure that is held beside it, in so far as it isn't told by the structure. Beside a structure
+/// of a rule stands what comes later inside.
 #[cycle(later)]
 #[derive(Drop)]
 pub enum Later {
     /// Nothing.
     Nothing,
-    /// What comes later in the right side of the rule of this number.
-    Named(u32, Box<Later>),
-    /// What comes later in the Union's argument of this number, which is the last that has a structure.
-    Chosen(u32, Box<Later>),
-    /// What comes later in an argument of a Union, and then the later arguments.
-    Argument(Box<Argument>, Box<Later>),
+    /// What comes later in an argument of the Union that is this node, and then the arguments behind it, with these labels.
+    Argument(u32, Supply, Box<Later>),
     /// What comes later in a list of components.
-    Components(Form5, Box<LaterLists>),
-}
-
-/// An argument of a Union that is being walked, and the labels of its structures.
-#[derive(Drop)]
-pub struct Argument {
-    /// The node of the Union.
-    pub(crate) node: u32,
-    /// The number of the argument, counted from 1.
-    pub(crate) number: u32,
-    pub(crate) supply: Supply,
+    Components(Box<LaterLists>),
 }
 
 /// What comes later than a list of components, from one of them on.

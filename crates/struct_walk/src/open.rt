@@ -3,19 +3,20 @@
 //! Only what has a structure is opened, as the numbers of the class tell. On the way down the number of labels never grows,
 //! and where it stays the rank falls.
 ghost use Rattle.std.specs.Prelude.{◌≡◌, ℕ, ◌≤◌, ◌<◌, List, [], ◌∷◌, length, map, IfOk};
-ghost use Rattle.struct_model.specs.Structure.{Structure, Named as NamedBy, Alt as Alternative, Tup, parts_of};
+ghost use Rattle.struct_model.specs.Structure.{Structure, Alt as Alternative, Tup, parts_of};
 ghost use Rattle.struct_model.specs.SupplyView.{supply_labels};
 ghost use Rattle.well_founded.specs.declared.node.NodeKind.TheVariants as told;
 ghost use Rattle.spec_syntax.specs.Nodes.{children_at, right_node};
 ghost use Rattle.listing_laws.specs.Lister.{named};
 ghost use Rattle.listing_laws.specs.NodeListing.{HasKind, listing_on, rule_on, rule_rank};
-ghost use Rattle.size_counts.specs.CountedView.{Counts, IsReachedIn};
+ghost use Rattle.size_counts.specs.CountedView.{IsReachedIn};
 ghost use Rattle.struct_walk.specs.Tails.{IsTail, tail_on};
-ghost use Rattle.struct_walk.specs.Stands.{IsAsked, IsCut};
+ghost use Rattle.struct_walk.specs.After.{argument_after, structures_after};
+ghost use Rattle.struct_walk.specs.Stands.{IsAsked, IsCut, Stands};
 ghost use Rattle.struct_walk.specs.Opened.{Opens, OpensLists, OpensSplit};
 
 use crate::arguments::next_argument;
-use crate::later::{Argument, Later, LaterLists, Level};
+use crate::later::{Later, LaterLists, Level};
 use crate::tail::{Cut, Tail, admitted_lengths, cut_tail, is_end};
 use size_counts::Counted;
 use splits::{LengthWalk, copy_supply};
@@ -34,57 +35,27 @@ fn only_label(supply: &Supply) -> u32
     }
 }
 
-/// What comes later in the right side of rule number `sym`, and the structure there as one of the rule.
-fn within_rule(
+/// What comes later in argument `number` of a Union, where `inner` comes later inside, and then in the arguments behind it.
+fn later_in_union(
     alloc: Global,
-    sym: u32,
-    later: Later,
-    inside: Struct,
-) -> Result<(Later, Struct), AllocError>
-    ensures { (counts : Counts) (ss : List Structure) → Opens counts ss (later, inside) → IfOk result (Opens counts (map (NamedBy sym) ss)) }
-{
-    let _ = &inside.shape;
-    let inside = Box::new(alloc, inside)?;
-    let s = Struct {
-        shape: Shape::Named(sym, inside),
-    };
-    match later {
-        Later::Nothing => Ok((Later::Nothing, s)),
-        Later::Named(_, _)
-        | Later::Chosen(_, _)
-        | Later::Argument(_, _)
-        | Later::Components(_, _) => {
-            let later = Box::new(alloc, later)?;
-            Ok((Later::Named(sym, later), s))
-        }
-    }
-}
-
-/// What comes later in argument `number` of a Union, which is the last with a structure, and the structure there as one of
-/// the Union.
-fn within_last(
-    alloc: Global,
+    counted: &Counted,
+    node: u32,
     number: u32,
-    later: Later,
-    inside: Struct,
-) -> Result<(Later, Struct), AllocError>
-    ensures { (counts : Counts) (ss : List Structure) → Opens counts ss (later, inside) → IfOk result (Opens counts (map (Alternative number) ss)) }
+    supply: Supply,
+    inner: Later,
+) -> Result<Later, AllocError>
+    requires reached { IsReachedIn counted.now node }
+    requires union { HasKind counted.now.checked node told.Union }
+    requires asked { IsAsked counted.now supply }
+    ensures after { (s : Structure) → IfOk result (λ later. structures_after counted.now.checked later (Alternative number s) ≡ argument_after counted.now.checked node supply (structures_after counted.now.checked inner) (Alternative number s)) }
+    ensures stands { (s : Structure) → Stands counted.now inner s → IfOk result (λ later. Stands counted.now later (Alternative number s)) }
 {
-    let _ = &inside.shape;
-    let inside = Box::new(alloc, inside)?;
-    let s = Struct {
-        shape: Shape::Alt(number, inside),
-    };
-    match later {
-        Later::Nothing => Ok((Later::Nothing, s)),
-        Later::Named(_, _)
-        | Later::Chosen(_, _)
-        | Later::Argument(_, _)
-        | Later::Components(_, _) => {
-            let later = Box::new(alloc, later)?;
-            Ok((Later::Chosen(number, later), s))
-        }
+    let n = supply.len();
+    if matches!(&inner, Later::Nothing) && next_argument(counted, node, number, n).is_none() {
+        return Ok(Later::Nothing);
     }
+    let inner = Box::new(alloc, inner)?;
+    Ok(Later::Argument(node, supply, inner))
 }
 
 /// The first structure of a node with the labels of the supply, and what comes later. There is one.
@@ -166,7 +137,12 @@ pub(crate) fn open_rule(
         | NodeKind::PowerSet
         | NodeKind::Cycle => {
             let (later, inside) = open_node(alloc, counted, right, supply)?;
-            within_rule(alloc, sym, later, inside)
+            let _ = &inside.shape;
+            let inside = Box::new(alloc, inside)?;
+            let s = Struct {
+                shape: Shape::Named(sym, inside),
+            };
+            Ok((later, s))
         }
     }
 }
@@ -191,24 +167,15 @@ fn open_union(
         unreachable!();
     };
     let child = grammar.child(node, number);
-    if next_argument(counted, node, number, n).is_none() {
-        let (later, inside) = open_node(alloc, counted, child, supply)?;
-        return within_last(alloc, number, later, inside);
-    }
-    let argument = Argument {
-        node,
-        number,
-        supply: copy_supply(alloc, &supply)?,
-    };
-    let argument = Box::new(alloc, argument)?;
-    let (later, inside) = open_node(alloc, counted, child, supply)?;
+    let labels = copy_supply(alloc, &supply)?;
+    let (inner, inside) = open_node(alloc, counted, child, labels)?;
     let _ = &inside.shape;
+    let later = later_in_union(alloc, counted, node, number, supply, inner)?;
     let inside = Box::new(alloc, inside)?;
-    let later = Box::new(alloc, later)?;
     let s = Struct {
         shape: Shape::Alt(number, inside),
     };
-    Ok((Later::Argument(argument, later), s))
+    Ok((later, s))
 }
 
 /// The first structure of a Prod or a Sequence, which has these components, and what comes later.
@@ -232,7 +199,7 @@ fn open_components(
     let s = Struct {
         shape: Shape::Tup(form, components),
     };
-    Ok((Later::Components(form, later), s))
+    Ok((Later::Components(later), s))
 }
 
 /// Puts the first list of components at the end. What comes later is answered.

@@ -2,196 +2,125 @@
 //!
 //! A structure changes only as far as the next one differs from it: the last component that has another one after it, and
 //! what stands behind that.
-ghost use Rattle.std.specs.Prelude.{◌≡◌, ◌<◌, ◌≤◌, length, drop, IfOk};
-ghost use Rattle.struct_model.specs.Structure.{Named as NamedBy, Alt as Alternative, Tup, parts_of};
-ghost use Rattle.struct_walk.specs.After.{inside, components, later_arguments, structures_after, lists_after, argument_after, parts_after};
+ghost use Rattle.std.specs.Prelude.{◌≡◌, ◌<◌, ◌≤◌, ◌^◌, length, drop, IfOk};
+ghost use Rattle.struct_model.specs.Structure.{Alt as Alternative, Tup, parts_of, labels_of_parts};
+ghost use Rattle.struct_model.specs.SupplyView.{supply_labels};
+ghost use Rattle.struct_walk.specs.After.{arguments_behind, structures_after, lists_after, parts_after};
 ghost use Rattle.struct_walk.specs.Tails.{on_splits};
-ghost use Rattle.struct_walk.specs.Stands.{ArgumentStands, LevelStands, Stands, ListsStand, PartsStand, AreSmall, AreSmallLists};
-ghost use Rattle.struct_walk.specs.Opened.{StepsTo, StepsOn, StepsWithin, ArgumentsOpen, ComponentsStepTo, ListsStepTo, PartsStepTo, PartsOpen};
+ghost use Rattle.struct_walk.specs.Stands.{CanGoOn, LevelStands, Stands, ListsStand, PartsStand, AreSmall, AreSmallLists};
+ghost use Rattle.struct_walk.specs.Opened.{Next, NextArgument, ListsStepTo, PartsStepTo, PartsOpen};
 
 use crate::arguments::next_argument;
-use crate::later::{Argument, Later, LaterLists, Level};
+use crate::later::{Later, LaterLists, Level};
 use crate::open::{open_lists, open_node, open_split};
 use size_counts::Counted;
 use splits::copy_supply;
 use std::alloc::{AllocError, Global};
 use std::mem;
-use struct_model::{Form5, Shape, Struct, Structs};
+use struct_model::{Form5, Shape, Struct, Structs, Supply};
 
-/// The structure that comes after `s`, or None where none comes.
+/// Puts the structure that comes after `s` in its place, if one comes.
 #[cycle(stepping)]
 pub(crate) fn step(
     alloc: Global,
     counted: &Counted,
     later: &mut Later,
-    s: Struct,
-) -> Result<Option<Struct>, AllocError>
-    requires stands { Stands counted.now later.old s }
-    requires small { AreSmall (structures_after counted.now.checked later.old s) }
-    ensures { IfOk result (StepsTo counted.now later.old s later.new) }
-{
-    match later {
-        Later::Nothing => Ok(None),
-        Later::Named(sym, inner) => step_rule(alloc, counted, *sym, inner, s),
-        Later::Chosen(number, inner) => step_last(alloc, counted, *number, inner, s),
-        Later::Argument(argument, inner) => step_argument(alloc, counted, argument, inner, s),
-        Later::Components(form, inner) => step_components(alloc, counted, *form, inner, s),
-    }
-}
-
-/// Puts the structure that comes after the one that stands `inside` in its place, if one comes.
-#[cycle(stepping)]
-fn step_inside(
-    alloc: Global,
-    counted: &Counted,
-    later: &mut Later,
-    inside: &mut Struct,
+    s: &mut Struct,
 ) -> Result<bool, AllocError>
-    requires stands { Stands counted.now later.old inside.old }
-    requires small { AreSmall (structures_after counted.now.checked later.old inside.old) }
-    ensures { IfOk result (StepsOn counted.now later.old inside.old later.new inside.new) }
+    requires stands { Stands counted.now later.old s.old }
+    requires small { AreSmall (structures_after counted.now.checked later.old s.old) }
+    ensures { IfOk result (Next counted.now (structures_after counted.now.checked later.old s.old) later.new s.new) }
 {
-    let nothing = Struct {
-        shape: Shape::Eps(0),
-    };
-    let present = mem::replace(inside, nothing);
-    match step(alloc, counted, later, present)? {
-        Some(next) => {
-            *inside = next;
-            Ok(true)
+    match &mut s.shape {
+        Shape::Eps(_) | Shape::Atom(_, _) => Ok(false),
+        Shape::Named(_, inside) => {
+            let inside: &mut Struct = inside;
+            let stepped = step(alloc, counted, later, inside);
+            let _ = &inside.shape;
+            stepped
         }
-        None => Ok(false),
+        Shape::Alt(number, inside) => {
+            let inside: &mut Struct = inside;
+            let stepped = step_argument(alloc, counted, later, number, inside);
+            let _ = &inside.shape;
+            stepped
+        }
+        Shape::Tup(form, components) => step_components(alloc, counted, later, *form, components),
     }
 }
 
-/// The structure that comes after a structure of rule number `sym`, if one comes.
-#[cycle(stepping)]
-fn step_rule(
-    alloc: Global,
-    counted: &Counted,
-    sym: u32,
-    later: &mut Later,
-    s: Struct,
-) -> Result<Option<Struct>, AllocError>
-    requires form { s ≡ NamedBy sym (inside s) }
-    requires stands { Stands counted.now later.old (inside s) }
-    requires small { AreSmall (structures_after counted.now.checked later.old (inside s)) }
-    ensures { IfOk result (StepsWithin counted.now (NamedBy sym) later.old (inside s) later.new) }
-{
-    let Shape::Named(_, mut inside) = s.shape else {
-        unreachable!();
-    };
-    if step_inside(alloc, counted, later, &mut inside)? {
-        Ok(Some(Struct {
-            shape: Shape::Named(sym, inside),
-        }))
-    } else {
-        Ok(None)
-    }
-}
-
-/// The same in argument `number` of a Union, behind which none has a structure.
-#[cycle(stepping)]
-fn step_last(
-    alloc: Global,
-    counted: &Counted,
-    number: u32,
-    later: &mut Later,
-    s: Struct,
-) -> Result<Option<Struct>, AllocError>
-    requires form { s ≡ Alternative number (inside s) }
-    requires stands { Stands counted.now later.old (inside s) }
-    requires small { AreSmall (structures_after counted.now.checked later.old (inside s)) }
-    ensures { IfOk result (StepsWithin counted.now (Alternative number) later.old (inside s) later.new) }
-{
-    let Shape::Alt(_, mut inside) = s.shape else {
-        unreachable!();
-    };
-    if step_inside(alloc, counted, later, &mut inside)? {
-        Ok(Some(Struct {
-            shape: Shape::Alt(number, inside),
-        }))
-    } else {
-        Ok(None)
-    }
-}
-
-/// The same in an argument of a Union, and then in those behind it.
+/// The same of a structure of a Union, in an argument and then in those behind it.
 #[cycle(stepping)]
 fn step_argument(
     alloc: Global,
     counted: &Counted,
-    argument: &mut Argument,
     later: &mut Later,
-    s: Struct,
-) -> Result<Option<Struct>, AllocError>
-    requires form { s ≡ Alternative argument.old.number (inside s) }
-    requires stands { Stands counted.now later.old (inside s) }
-    requires argument { ArgumentStands counted.now argument.old }
-    requires small { AreSmall (structures_after counted.now.checked later.old (inside s)) }
-    ensures { IfOk result (ArgumentsOpen counted.now (argument_after counted.now.checked argument.old later.old (inside s)) argument.new later.new) }
+    number: &mut u32,
+    inside: &mut Struct,
+) -> Result<bool, AllocError>
+    requires stands { Stands counted.now later.old (Alternative number.old inside.old) }
+    requires small { AreSmall (structures_after counted.now.checked later.old (Alternative number.old inside.old)) }
+    ensures { IfOk result (Next counted.now (structures_after counted.now.checked later.old (Alternative number.old inside.old)) later.new (Alternative number.new inside.new)) }
 {
-    let Shape::Alt(number, mut inside) = s.shape else {
-        unreachable!();
+    let Later::Argument(node, supply, inner) = later else {
+        return Ok(false);
     };
-    if step_inside(alloc, counted, later, &mut inside)? {
-        return Ok(Some(Struct {
-            shape: Shape::Alt(number, inside),
-        }));
+    if step(alloc, counted, inner, inside)? {
+        return Ok(true);
     }
-    open_next_argument(alloc, counted, argument, later)
+    open_next_argument(alloc, counted, *node, supply, inner, number, inside)
 }
 
-/// The first structure of the arguments behind this one, or None where these have none.
+/// Puts the first structure of the arguments behind this one in its place, if they have one.
 fn open_next_argument(
     alloc: Global,
     counted: &Counted,
-    argument: &mut Argument,
+    node: u32,
+    supply: &Supply,
     later: &mut Later,
-) -> Result<Option<Struct>, AllocError>
-    requires argument { ArgumentStands counted.now argument.old }
-    ensures { IfOk result (ArgumentsOpen counted.now (later_arguments counted.now.checked argument.old) argument.new later.new) }
+    number: &mut u32,
+    inside: &mut Struct,
+) -> Result<bool, AllocError>
+    requires stands { CanGoOn counted.now node supply.now }
+    ensures { IfOk result (NextArgument counted.now node supply.now (arguments_behind counted.now.checked node number.old (supply_labels supply.now)) number.new later.new inside.new) }
 {
-    let n = argument.supply.len();
-    let Some(number) = next_argument(counted, argument.node, argument.number, n) else {
-        return Ok(None);
+    let n = supply.len();
+    let Some(next) = next_argument(counted, node, *number, n) else {
+        return Ok(false);
     };
-    let child = counted.grammar().child(argument.node, number);
-    let supply = copy_supply(alloc, &argument.supply)?;
-    let (first, inside) = open_node(alloc, counted, child, supply)?;
-    let _ = &inside.shape;
-    let inside = Box::new(alloc, inside)?;
-    argument.number = number;
+    let child = counted.grammar().child(node, next);
+    let labels = copy_supply(alloc, supply)?;
+    let (first, opened) = open_node(alloc, counted, child, labels)?;
+    *number = next;
     *later = first;
-    Ok(Some(Struct {
-        shape: Shape::Alt(number, inside),
-    }))
+    *inside = opened;
+    Ok(true)
 }
 
-/// The same of a list of components in its form.
+/// The same of a structure that has these components. They have fewer than 2^32 atoms, whatever comes.
 #[cycle(stepping)]
 fn step_components(
     alloc: Global,
     counted: &Counted,
+    later: &mut Later,
     form: Form5,
-    later: &mut LaterLists,
-    s: Struct,
-) -> Result<Option<Struct>, AllocError>
-    requires form { s ≡ Tup form (parts_of (components s)) }
-    requires stand { ListsStand counted.now later.old (components s) }
-    requires small { AreSmallLists (lists_after counted.now.checked later.old (components s)) }
-    ensures { IfOk result (ComponentsStepTo counted.now form later.old (components s) later.new) }
+    components: &mut Structs,
+) -> Result<bool, AllocError>
+    requires stands { Stands counted.now later.old (Tup form (parts_of components.old)) }
+    requires small { AreSmall (structures_after counted.now.checked later.old (Tup form (parts_of components.old))) }
+    requires few { length (labels_of_parts (parts_of components.old)) < 2 ^ 32 }
+    ensures next { IfOk result (Next counted.now (structures_after counted.now.checked later.old (Tup form (parts_of components.old))) later.new (Tup form (parts_of components.new))) }
+    ensures few { length (labels_of_parts (parts_of components.new)) < 2 ^ 32 }
 {
-    let Shape::Tup(_, mut components) = s.shape else {
-        unreachable!();
+    let Later::Components(lists) = later else {
+        return Ok(false);
     };
-    if step_lists(alloc, counted, later, &mut components, 0)? {
-        Ok(Some(Struct {
-            shape: Shape::Tup(form, components),
-        }))
-    } else {
-        Ok(None)
+    let mut stepped = mem::replace(components, Structs::new(alloc));
+    if step_lists(alloc, counted, lists, &mut stepped, 0)? {
+        *components = stepped;
+        return Ok(true);
     }
+    Ok(false)
 }
 
 /// Puts the list of components that comes next in place of the one from the place on, or takes this away where none comes.
@@ -211,14 +140,14 @@ fn step_lists(
     match later {
         LaterLists::Nothing => Ok(false),
         LaterLists::Last(inner) => {
-            let Some(component) = components.pop() else {
+            let Some(mut component) = components.pop() else {
                 unreachable!();
             };
-            let Some(next) = step(alloc, counted, inner, component)? else {
-                return Ok(false);
-            };
-            components.push(next)?;
-            Ok(true)
+            if step(alloc, counted, inner, &mut component)? {
+                components.push(component)?;
+                return Ok(true);
+            }
+            Ok(false)
         }
         LaterLists::Parts(level, first, others) => {
             step_parts(alloc, counted, level, first, others, components, place)
@@ -248,11 +177,11 @@ fn step_parts(
     if step_lists(alloc, counted, others, components, place + 1)? {
         return Ok(true);
     }
-    let Some(component) = components.pop() else {
+    let Some(mut component) = components.pop() else {
         unreachable!();
     };
-    if let Some(next) = step(alloc, counted, first, component)? {
-        components.push(next)?;
+    if step(alloc, counted, first, &mut component)? {
+        components.push(component)?;
         let rest = copy_supply(alloc, &level.rest)?;
         *others = open_lists(alloc, counted, level.cut.behind, rest, components)?;
         return Ok(true);

@@ -95,6 +95,7 @@ fn counted(
     requires small { size ≤ 1000 }
     ensures universe { IfSome result (λ counted. counted.checked.universe ≡ universe) }
     ensures size { IfSome result (λ counted. counted.size ≡ size) }
+    ensures sequences { IfSome result (λ counted. IsTrue (are_sequences counted.checked.rules)) }
 {
     let Ok(grammar) = check(alloc, spec, Some(name), universe) else {
         return None;
@@ -179,7 +180,9 @@ fn is_first_word(s: &Struct) -> bool {
 }
 
 /// The words of the letters a and b: `F = Sequence(Union(a, b)), a = Atom, b = Atom`.
-fn words(alloc: Global) -> Result<Option<Counted>, AllocError> {
+fn words(alloc: Global) -> Result<Option<Counted>, AllocError>
+    ensures { IfOk result (λ words. IfSome words (λ counted. IsTrue (are_sequences counted.checked.rules))) }
+{
     let mut spec = Spec::new(alloc);
     let letters = union_of(alloc, named(alloc, b"a")?, named(alloc, b"b")?)?;
     let right = sequence_of(alloc, letters, ANY)?;

@@ -1,5 +1,6 @@
 //! Walkers over the structures of a node.
 ghost use Rattle.std.specs.Prelude.{◌≡◌, ℕ, ◌∷◌, [], false, true, List, IfOk, IfSome, IfNone, OnOk, OnErr, IsTrue, ◌↔◌, drop, slice_get, Some};
+ghost use Rattle.spec_syntax.specs.Rules.{are_sequences};
 ghost use Rattle.struct_model.specs.SupplyView.{supply_labels};
 ghost use Rattle.listing_laws.specs.NodeListing.{listing_on, listing_of_rule};
 ghost use Rattle.size_counts.specs.CountedView.{Counts, IsReachedIn};
@@ -59,6 +60,7 @@ impl Walker {
     ///
     /// Memory may be wanting.
     pub(crate) fn over_members(alloc: Global, counted: &Counted) -> Result<Walker, AllocError>
+        requires { IsTrue (are_sequences counted.now.checked.rules) }
         ensures rest { (sym : ℕ) → counted.now.checked.start ≡ Some sym → IfOk result (λ walker. walker_rest counted.now walker ≡ listing_of_rule counted.now.checked sym counted.now.size) }
         ensures has_rest { IfOk result (HasRest counted.now) }
         ensures whole { IfOk result (λ walker. walker_is_broken walker ≡ false) }
@@ -101,10 +103,11 @@ impl Walker {
         match mem::replace(self, Walker::Broken) {
             Walker::Broken => unreachable!(),
             Walker::Ended => *self = Walker::Ended,
-            Walker::At(s, mut later) => {
-                *self = match step(alloc, counted, &mut later, s)? {
-                    Some(next) => Walker::At(next, later),
-                    None => Walker::Ended,
+            Walker::At(mut s, mut later) => {
+                *self = if step(alloc, counted, &mut later, &mut s)? {
+                    Walker::At(s, later)
+                } else {
+                    Walker::Ended
                 };
             }
         }

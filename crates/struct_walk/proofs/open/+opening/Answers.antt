@@ -5,7 +5,8 @@ use Rattle.spec_syntax.specs.Rules.{symbol, all_nodes}
 use Rattle.spec_syntax.specs.declared.expr.Card.{Card}
 use Rattle.spec_syntax.specs.Card.{is_within}
 use Rattle.spec_syntax.specs.Nodes.{right_node, name_at, card_at, children_at}
-use Rattle.struct_model.specs.Structure.{Structure, Named, Eps, Atom}
+use Rattle.struct_model.specs.Structure.{Structure, Named, Alt, Eps, Atom}
+use Rattle.struct_model.specs.declared.supplies.Supply.{Supply}
 use Rattle.struct_model.specs.SupplyView.{supply_labels, supply_universe, is_in_order}
 use Rattle.well_founded.specs.Checked.{Checked}
 use Rattle.well_founded.specs.declared.node.NodeKind.{NodeKind}
@@ -19,10 +20,13 @@ use Rattle.listing_laws.proofs.NodeLemmas.{nodes_are_listed}
 use Rattle.size_counts.specs.CountedView.{Counts, IsReachedIn}
 use Rattle.struct_walk.specs.declared.tail.Cut.{Cut}
 use Rattle.struct_walk.specs.Tails.{cut_of, tail_on, is_end, open_lengths}
-use Rattle.struct_walk.specs.Stands.{IsAsked}
-use Rattle.struct_walk.specs.Opened.{Opens, OpensLists, OpensSplit, HasNoArgument}
+use Rattle.struct_walk.specs.After.{arguments_behind}
+use Rattle.struct_walk.specs.Stands.{IsAsked, CanGoOn}
+use Rattle.struct_walk.specs.Opened.{Opens, OpensLists, OpensSplit, NextArgument}
+use Rattle.struct_walk.proofs.StepArguments.{next_reached, next_some, next_down, next_opens}
+use Rattle.struct_walk.proofs.StepForms.{named_opens}
 use Rattle.struct_walk.proofs.Measures.{node_measure, rule_down, right_down, prod_down, sequence_down}
-use Rattle.struct_walk.proofs.OpenLemmas.{asked_supply, opens_one, epsilon_alone, atom_label, none_is_other, rule_inside, name_is_rule, some_holds, none_holds, some_argument, argument_reached, argument_some, argument_down, last_argument, argument_whole, argument_stands, lists_end, is_cut, last_whole, last_some, last_down, last_opens, some_split, part_asked, rest_asked, part_some, rest_some, split_down, parts_whole, parts_stand, level_stands, no_value, made_some, right_some, rule_epsilon, rule_label, rule_atom, few_atoms, components_whole, components_stand}
+use Rattle.struct_walk.proofs.OpenLemmas.{are_listable, asked_supply, opens_one, epsilon_alone, atom_label, none_is_other, rule_inside, name_is_rule, some_holds, none_holds, by_arguments, some_argument, lists_end, is_cut, last_whole, last_some, last_down, last_opens, some_split, part_asked, rest_asked, part_some, rest_some, split_down, parts_whole, parts_stand, level_stands, made_some, right_some, rule_epsilon, rule_label, rule_atom, few_atoms, components_open}
 use Rattle.struct_walk.proofs.ReachedNodes.{reached_within, reached_rule}
 use Rattle.struct_walk.proofs.TailLemmas.{listing_number}
 use Rattle.struct_walk.proofs.open.+opening.Goals as goal
@@ -209,16 +213,8 @@ open_components-invariant_of-s t c =
 
 pub open_components-returns : goal.open_components-returns
 open_components-returns t c =
-    record {
-      whole =
-          components_whole c.args.counted.now c.grammar.ensures.kept c.args.tail c.args.supply c.requires.tail c.requires.asked c.requires.some
-          c.args.form c.new-components.result
-          c.open_lists.new.components c.in_ok-lists.lists c.in_ok-later.later.value c.new-components.ensures c.in_ok-later.ensures.ok c.in_ok-lists.ensures;
-      stands =
-          components_stand c.args.counted.now c.grammar.ensures.kept c.args.tail c.args.supply c.requires.tail c.requires.asked c.requires.some
-          c.args.form c.new-components.result
-          c.open_lists.new.components c.in_ok-lists.lists c.in_ok-later.later.value c.new-components.ensures c.in_ok-later.ensures.ok c.in_ok-lists.ensures;
-    }
+    components_open c.args.counted.now c.grammar.ensures.kept c.args.tail c.args.supply c.requires.tail c.requires.asked c.requires.some c.args.form
+    c.new-components.result c.open_lists.new.components c.in_ok-lists.lists c.in_ok-later.later.value c.new-components.ensures c.in_ok-later.ensures.ok c.in_ok-lists.ensures _
 
 -- ---- open_node
 
@@ -247,7 +243,7 @@ open_node-only_label-requires t c =
     let is : HasKind checked c.args.node told.Atom = kind_read c.grammar-grammar.result.now checked c.args.node c.kind.result told.Atom
     c.grammar-grammar.ensures.value c.kind.ensures c.in-Atom.is in
     atom_label (supply_labels c.args.supply) (subst (λ (ss : List Structure). 0 < length ss)
-    (nodes_are_listed.atom checked c.args.node (supply_labels c.args.supply) c.grammar-grammar.ensures.kept.listable.passed
+    (nodes_are_listed.atom checked c.args.node (supply_labels c.args.supply) c.grammar-grammar.ensures.kept.passed
     (asked_supply c.args.counted.now c.args.supply c.requires.asked) is) c.requires.some)
 
 pub open_node-sym-requires-clause-within : goal.open_node-sym-requires-clause-within
@@ -270,12 +266,12 @@ open_node-open_rule-requires t c =
     let high : c.sym.result ≤ length checked.rules = subst (λ (g : Checked). c.sym.result ≤ length g.rules) c.grammar-grammar.ensures.value
     c.sym.ensures.high in
     let some : 0 < length (rule_on checked c.sym.result u) =
-    subst (λ (ss : List Structure). 0 < length ss) (name_is_rule checked ok.listable c.args.node c.sym.result u supplied is c.sym.ensures.low high
+    subst (λ (ss : List Structure). 0 < length ss) (name_is_rule checked (are_listable counts c.args.supply ok c.requires.asked) c.args.node c.sym.result u supplied is c.sym.ensures.low high
     found) c.requires.some in
     let right_there : 0 < number_of_node checked (right_node checked.rules c.sym.result) (length u) =
-    subst (λ (m : ℕ). 0 < m) (listing_number checked ok.listable.passed (right_node checked.rules c.sym.result) u supplied)
-    (right_some checked ok.listable c.sym.result u supplied c.sym.ensures.low high some) in
-    let down = rule_down checked ok.listable.passed c.args.node c.sym.result (length u) is found (omega (arith, c.requires.asked.within, ok.small))
+    subst (λ (m : ℕ). 0 < m) (listing_number checked ok.passed (right_node checked.rules c.sym.result) u supplied)
+    (right_some checked (are_listable counts c.args.supply ok c.requires.asked) c.sym.result u supplied c.sym.ensures.low high some) in
+    let down = rule_down checked ok.passed c.args.node c.sym.result (length u) is found (omega (arith, c.requires.asked.within, ok.small))
     right_there in (
       omega (arith, c.decreases, down),
       (c.sym.ensures.low, (high, (reached_rule counts ok c.args.node c.sym.result c.requires.reached is found, (c.requires.asked, some)))),
@@ -289,8 +285,8 @@ open_node-open_components-requires t c =
     let u = supply_labels c.args.supply in
     let is : HasKind checked c.args.node told.Prod = kind_read c.grammar-grammar.result.now checked c.args.node c.kind.result told.Prod
     c.grammar-grammar.ensures.value c.kind.ensures c.in-Prod.is in
-    let listed = nodes_are_listed.prod checked c.args.node u ok.listable.passed (asked_supply counts c.args.supply c.requires.asked) is in
-    let down = prod_down checked ok.listable.passed c.args.node (length u) (reached_within counts ok c.args.node c.requires.reached) in (
+    let listed = nodes_are_listed.prod checked c.args.node u ok.passed (asked_supply counts c.args.supply c.requires.asked) is in
+    let down = prod_down checked ok.passed c.args.node (length u) (reached_within counts ok c.args.node c.requires.reached) in (
       omega (arith, c.decreases, down),
       (
         record { reached = c.requires.reached; prod = is; within = omega arith },
@@ -315,9 +311,9 @@ open_node-open_components-requires-in-Sequence t c =
     subst (λ (g : Checked). slice_get (children_at g.rules c.args.node) 0 ≡ Some c.child.result) c.grammar-grammar.ensures.value c.child.ensures.value in
     let card : card_at checked.rules c.args.node ≡ Some c.card.result =
     subst (λ (g : Checked). card_at g.rules c.args.node ≡ Some c.card.result) c.grammar-grammar.ensures.value c.card.ensures in
-    let listed = nodes_are_listed.sequence checked c.args.node c.child.result c.card.result u ok.listable.passed
+    let listed = nodes_are_listed.sequence checked c.args.node c.child.result c.card.result u ok.passed
     (asked_supply counts c.args.supply c.requires.asked) is child card in
-    let down = sequence_down checked ok.listable.passed c.args.node c.child.result (length u) c.card.result card in (
+    let down = sequence_down checked ok.passed c.args.node c.child.result (length u) c.card.result card in (
       omega (arith, c.decreases, down),
       (
         record {
@@ -336,14 +332,14 @@ open_node-unreachable-requires t c =
     let checked = c.args.counted.now.checked in
     let is : HasKind checked c.args.node c.kind.result = subst (λ (g : Checked). HasKind g c.args.node c.kind.result) c.grammar-grammar.ensures.value
     c.kind.ensures in
-    no_other checked c.grammar-grammar.ensures.kept.listable c.args.node c.kind.result is c.in-Set.is
+    no_other checked (are_listable c.args.counted.now c.args.supply c.grammar-grammar.ensures.kept c.requires.asked) c.args.node c.kind.result is c.in-Set.is
 
 pub open_node-returns-in-Epsilon : goal.open_node-returns-in-Epsilon
 open_node-returns-in-Epsilon t c =
     let checked = c.args.counted.now.checked in
     let is : HasKind checked c.args.node told.Epsilon = kind_read c.grammar-grammar.result.now checked c.args.node c.kind.result told.Epsilon
     c.grammar-grammar.ensures.value c.kind.ensures c.in-Epsilon.is in
-    let listed = nodes_are_listed.epsilon checked c.args.node (supply_labels c.args.supply) c.grammar-grammar.ensures.kept.listable.passed
+    let listed = nodes_are_listed.epsilon checked c.args.node (supply_labels c.args.supply) c.grammar-grammar.ensures.kept.passed
     (asked_supply c.args.counted.now c.args.supply c.requires.asked) is in
     opens_one c.args.counted.now (listing_on checked c.args.node (supply_labels c.args.supply)) (Eps 0)
     (listed ∙ epsilon_alone (supply_labels c.args.supply) (subst (λ (ss : List Structure). 0 < length ss) listed c.requires.some))
@@ -353,7 +349,7 @@ open_node-returns-in-Atom t c =
     let checked = c.args.counted.now.checked in
     let is : HasKind checked c.args.node told.Atom = kind_read c.grammar-grammar.result.now checked c.args.node c.kind.result told.Atom
     c.grammar-grammar.ensures.value c.kind.ensures c.in-Atom.is in
-    let listed = nodes_are_listed.atom checked c.args.node (supply_labels c.args.supply) c.grammar-grammar.ensures.kept.listable.passed
+    let listed = nodes_are_listed.atom checked c.args.node (supply_labels c.args.supply) c.grammar-grammar.ensures.kept.passed
     (asked_supply c.args.counted.now c.args.supply c.requires.asked) is in
     opens_one c.args.counted.now (listing_on checked c.args.node (supply_labels c.args.supply)) (Atom 0 c.only_label.result)
     (listed ∙ ap list_atom c.only_label.ensures)
@@ -372,7 +368,7 @@ open_node-returns-in-Rule t c =
     let high : c.sym.result ≤ length checked.rules = subst (λ (g : Checked). c.sym.result ≤ length g.rules) c.grammar-grammar.ensures.value
     c.sym.ensures.high in
     subst (λ (ss : List Structure). IfOk c.open_rule.result (Opens counts ss))
-    (sym (name_is_rule checked ok.listable c.args.node c.sym.result u (asked_supply counts c.args.supply c.requires.asked) is c.sym.ensures.low high
+    (sym (name_is_rule checked (are_listable counts c.args.supply ok c.requires.asked) c.args.node c.sym.result u (asked_supply counts c.args.supply c.requires.asked) is c.sym.ensures.low high
     found)) c.open_rule.ensures
 
 pub open_node-returns-in-Prod : goal.open_node-returns-in-Prod
@@ -383,7 +379,7 @@ open_node-returns-in-Prod t c =
     let is : HasKind checked c.args.node told.Prod = kind_read c.grammar-grammar.result.now checked c.args.node c.kind.result told.Prod
     c.grammar-grammar.ensures.value c.kind.ensures c.in-Prod.is in
     subst (λ (ss : List Structure). IfOk c.open_components.result (Opens counts ss))
-    (sym (nodes_are_listed.prod checked c.args.node u c.grammar-grammar.ensures.kept.listable.passed
+    (sym (nodes_are_listed.prod checked c.args.node u c.grammar-grammar.ensures.kept.passed
     (asked_supply counts c.args.supply c.requires.asked) is)) c.open_components.ensures
 
 pub open_node-returns-in-Sequence : goal.open_node-returns-in-Sequence
@@ -398,7 +394,7 @@ open_node-returns-in-Sequence t c =
     let card : card_at checked.rules c.args.node ≡ Some c.card.result =
     subst (λ (g : Checked). card_at g.rules c.args.node ≡ Some c.card.result) c.grammar-grammar.ensures.value c.card.ensures in
     subst (λ (ss : List Structure). IfOk c.open_components-in-Sequence.result (Opens counts ss))
-    (sym (nodes_are_listed.sequence checked c.args.node c.child.result c.card.result u c.grammar-grammar.ensures.kept.listable.passed
+    (sym (nodes_are_listed.sequence checked c.args.node c.child.result c.card.result u c.grammar-grammar.ensures.kept.passed
     (asked_supply counts c.args.supply c.requires.asked) is child card)) c.open_components-in-Sequence.ensures
 
 -- ---- open_rule
@@ -431,7 +427,7 @@ open_rule-only_label-requires t c =
     let is = right_read c.grammar-grammar.result.now counts.checked c.args.sym c.rule_node-right.result c.kind.result told.Atom
     c.grammar-grammar.ensures.value c.rule_node-right.ensures.value
     c.kind.ensures c.in-Atom.is in
-    rule_label counts.checked c.grammar-grammar.ensures.kept.listable c.args.sym (supply_labels c.args.supply)
+    rule_label counts.checked (are_listable c.args.counted.now c.args.supply c.grammar-grammar.ensures.kept c.requires.asked) c.args.sym (supply_labels c.args.supply)
     (asked_supply counts c.args.supply c.requires.asked) c.requires.low c.requires.high
     c.requires.some is
 
@@ -447,8 +443,8 @@ open_rule-open_node-requires t c =
     c.grammar-grammar.ensures.value c.rule_node-right.ensures.value
     c.kind.ensures refl in
     let no = no_word c.kind.result c.in-Rule.is in
-    let down = right_down checked ok.listable.passed c.args.sym (length u) c.kind.result c.requires.low c.requires.high is no.0 no.1 in
-    let some = right_some checked ok.listable c.args.sym u (asked_supply counts c.args.supply c.requires.asked) c.requires.low c.requires.high
+    let down = right_down checked ok.passed c.args.sym (length u) c.kind.result c.requires.low c.requires.high is no.0 no.1 in
+    let some = right_some checked (are_listable counts c.args.supply ok c.requires.asked) c.args.sym u (asked_supply counts c.args.supply c.requires.asked) c.requires.low c.requires.high
     c.requires.some in (
       omega (arith, c.decreases, down, ap (λ (node : ℕ). node_measure checked node (length u)) right),
       (
@@ -464,7 +460,7 @@ open_rule-returns-in-Epsilon t c =
     c.grammar-grammar.ensures.value
     c.rule_node-right.ensures.value c.kind.ensures c.in-Epsilon.is in
     opens_one counts (rule_on counts.checked c.args.sym (supply_labels c.args.supply)) (Eps c.args.sym)
-    (rule_epsilon counts.checked c.grammar-grammar.ensures.kept.listable c.args.sym (supply_labels c.args.supply)
+    (rule_epsilon counts.checked (are_listable c.args.counted.now c.args.supply c.grammar-grammar.ensures.kept c.requires.asked) c.args.sym (supply_labels c.args.supply)
     (asked_supply counts c.args.supply c.requires.asked) c.requires.low
     c.requires.high c.requires.some is)
 
@@ -475,12 +471,12 @@ open_rule-returns-in-Atom t c =
     c.grammar-grammar.ensures.value c.rule_node-right.ensures.value
     c.kind.ensures c.in-Atom.is in
     opens_one counts (rule_on counts.checked c.args.sym (supply_labels c.args.supply)) (Atom c.args.sym c.only_label.result)
-    (rule_atom counts.checked c.grammar-grammar.ensures.kept.listable c.args.sym c.only_label.result (supply_labels c.args.supply)
+    (rule_atom counts.checked (are_listable c.args.counted.now c.args.supply c.grammar-grammar.ensures.kept c.requires.asked) c.args.sym c.only_label.result (supply_labels c.args.supply)
     (asked_supply counts c.args.supply c.requires.asked)
     c.requires.low c.requires.high c.only_label.ensures is)
 
-pub open_rule-returns-in_ok-later-in-Rule : goal.open_rule-returns-in_ok-later-in-Rule
-open_rule-returns-in_ok-later-in-Rule t c =
+pub open_rule-returns-in_ok-inside-in-Rule : goal.open_rule-returns-in_ok-inside-in-Rule
+open_rule-returns-in_ok-inside-in-Rule t c =
     let counts = c.args.counted.now in
     let checked = c.args.counted.now.checked in
     let u = supply_labels c.args.supply in
@@ -490,93 +486,57 @@ open_rule-returns-in_ok-later-in-Rule t c =
     c.grammar-grammar.ensures.value c.rule_node-right.ensures.value
     c.kind.ensures refl in
     let no = no_word c.kind.result c.in-Rule.is in
-    subst (λ (ss : List Structure). IfOk c.within_rule.result (Opens counts ss))
+    subst (λ (ss : List Structure). Opens counts ss (c.in_ok-later-in-Rule.later, Named c.args.sym c.in_ok-inside-in-Rule.inside.value))
     (ap (λ (node : ℕ). map (Named c.args.sym) (listing_on checked node u)) right
-    ∙ sym (rule_inside checked c.grammar-grammar.ensures.kept.listable c.kind.result c.args.sym u (asked_supply counts c.args.supply c.requires.asked)
+    ∙ sym (rule_inside checked (are_listable c.args.counted.now c.args.supply c.grammar-grammar.ensures.kept c.requires.asked) c.kind.result c.args.sym u (asked_supply counts c.args.supply c.requires.asked)
     c.requires.low c.requires.high is no.0 no.1))
-    (c.within_rule.ensures counts (listing_on checked c.rule_node-right.result u) c.in_ok-later-in-Rule.ensures)
+    (subst (λ (s : Structure). Opens counts (map (Named c.args.sym) (listing_on checked c.rule_node-right.result u)) (c.in_ok-later-in-Rule.later, Named c.args.sym s)) (sym c.in_ok-inside-in-Rule.ensures.ok)
+    (named_opens counts c.args.sym (listing_on checked c.rule_node-right.result u) c.in_ok-later-in-Rule.later c.in_ok-later-in-Rule.inside c.in_ok-later-in-Rule.ensures))
 
 -- ---- open_union
 
 pub open_union-unreachable-requires : goal.open_union-unreachable-requires
 open_union-unreachable-requires t c =
-    some_argument c.args.counted.now c.grammar-grammar.ensures.kept c.args.node c.args.supply c.requires.reached c.requires.union c.requires.asked
-    c.requires.some c.len-n.result c.len-n.ensures
-    c.in_default.ensures.none
+    some_argument c.args.counted.now c.grammar-grammar.ensures.kept c.args.node c.args.supply c.requires.union c.requires.asked c.len-n.result c.len-n.ensures
+    c.requires.some c.in_default.ensures.none
 
 pub open_union-open_node-requires : goal.open_union-open_node-requires
 open_union-open_node-requires t c =
     let counts = c.args.counted.now in
-    let checked = c.grammar-grammar.result.now in
-    let down = argument_down counts c.grammar-grammar.ensures.kept c.args.node c.args.supply c.requires.reached c.requires.union c.requires.asked
-    c.requires.some c.len-n.result c.len-n.ensures
-    c.in-Some.number c.child-child.result c.in-Some.ensures.some checked c.grammar-grammar.ensures.value c.child-child.ensures.value in (
-      omega (arith, c.decreases, down),
+    let ok = c.grammar-grammar.ensures.kept in
+    let stands : CanGoOn counts c.args.node c.args.supply = record { reached = c.requires.reached; union = c.requires.union; asked = c.requires.asked } in
+    let next = c.in-Some.ensures.some in
+    let same = c.grammar-grammar.ensures.value in
+    let at = c.child-child.ensures.value in
+    let copied = c.in_ok-labels.labels in
+    let copy = c.in_ok-labels.ensures in (
+      omega (
+        arith,
+        c.decreases,
+        next_down counts c.args.node c.args.supply stands 0 c.len-n.result c.len-n.ensures ok c.grammar-grammar.result.now same c.in-Some.number c.child-child.result next at,
+        ap (λ (s : Supply). length (supply_labels s)) copy,
+        ap (λ (s : Supply). node_measure counts.checked c.child-child.result (length (supply_labels s))) copy,
+      ),
       (
-        argument_reached counts c.grammar-grammar.ensures.kept c.args.node c.args.supply c.requires.reached c.requires.union c.requires.asked
-            c.requires.some c.len-n.result c.len-n.ensures
-            c.in-Some.number c.child-child.result c.in-Some.ensures.some checked c.grammar-grammar.ensures.value c.child-child.ensures.value,
+        next_reached counts c.args.node c.args.supply stands 0 c.len-n.result c.len-n.ensures ok c.grammar-grammar.result.now same c.in-Some.number c.child-child.result next at,
         (
-          c.requires.asked,
-          argument_some counts c.grammar-grammar.ensures.kept c.args.node c.args.supply c.requires.reached c.requires.union c.requires.asked
-              c.requires.some c.len-n.result c.len-n.ensures
-              c.in-Some.number c.child-child.result c.in-Some.ensures.some checked c.grammar-grammar.ensures.value c.child-child.ensures.value,
+          subst (λ (s : Supply). IsAsked counts s) (sym copy) c.requires.asked,
+          next_some counts c.args.node c.args.supply stands 0 c.len-n.result c.len-n.ensures ok c.grammar-grammar.result.now same c.in-Some.number c.child-child.result next at copied copy,
         ),
       ),
     )
-
-pub open_union-open_node-requires-2 : goal.open_union-open_node-requires-2
-open_union-open_node-requires-2 t c =
-    let counts = c.args.counted.now in
-    let checked = c.grammar-grammar.result.now in
-    let down = argument_down counts c.grammar-grammar.ensures.kept c.args.node c.args.supply c.requires.reached c.requires.union c.requires.asked
-    c.requires.some c.len-n.result c.len-n.ensures
-    c.in-Some.number c.child-child.result c.in-Some.ensures.some checked c.grammar-grammar.ensures.value c.child-child.ensures.value in (
-      omega (arith, c.decreases, down),
-      (
-        argument_reached counts c.grammar-grammar.ensures.kept c.args.node c.args.supply c.requires.reached c.requires.union c.requires.asked
-            c.requires.some c.len-n.result c.len-n.ensures
-            c.in-Some.number c.child-child.result c.in-Some.ensures.some checked c.grammar-grammar.ensures.value c.child-child.ensures.value,
-        (
-          c.requires.asked,
-          argument_some counts c.grammar-grammar.ensures.kept c.args.node c.args.supply c.requires.reached c.requires.union c.requires.asked
-              c.requires.some c.len-n.result c.len-n.ensures
-              c.in-Some.number c.child-child.result c.in-Some.ensures.some checked c.grammar-grammar.ensures.value c.child-child.ensures.value,
-        ),
-      ),
-    )
-
-pub open_union-returns-then-is_none : goal.open_union-returns-then-is_none
-open_union-returns-then-is_none t c =
-    let counts = c.args.counted.now in
-    let none : HasNoArgument counts.checked c.args.node c.in-Some.number c.len-n.result =
-    no_value (HasNoArgument counts.checked c.args.node c.in-Some.number c.len-n.result) c.next_argument-2.result c.is_none.result c.is_none.ensures
-    c.if-is_none.true c.next_argument-2.ensures.none in
-    subst (λ (ss : List Structure). IfOk c.within_last.result (Opens counts ss))
-    (last_argument counts c.grammar-grammar.ensures.kept c.args.node c.args.supply c.requires.reached c.requires.union c.requires.asked
-    c.requires.some c.len-n.result c.len-n.ensures
-    c.in-Some.number c.child-child.result c.in-Some.ensures.some c.grammar-grammar.result.now c.grammar-grammar.ensures.value
-    c.child-child.ensures.value none)
-    (c.within_last.ensures counts (listing_on counts.checked c.child-child.result (supply_labels c.args.supply)) c.in_ok-later.ensures)
 
 pub open_union-returns : goal.open_union-returns
 open_union-returns t c =
     let counts = c.args.counted.now in
-    record {
+    let ok = c.grammar-grammar.ensures.kept in
+    let stands : CanGoOn counts c.args.node c.args.supply = record { reached = c.requires.reached; union = c.requires.union; asked = c.requires.asked } in
+    let next : NextArgument counts c.args.node c.args.supply (arguments_behind counts.checked c.args.node 0 (supply_labels c.args.supply)) c.in-Some.number c.in_ok-inner.inner c.in_ok-inner.inside true =
+    next_opens counts c.args.node c.args.supply stands 0 c.len-n.result c.len-n.ensures ok c.grammar-grammar.result.now c.grammar-grammar.ensures.value c.in-Some.number c.child-child.result
+    c.in-Some.ensures.some c.child-child.ensures.value c.in_ok-labels.labels c.in_ok-inner.inner c.in_ok-inner.inside c.in_ok-labels.ensures c.in_ok-inner.ensures in
+    subst (λ (s : Structure). Opens counts (listing_on counts.checked c.args.node (supply_labels c.args.supply)) (c.in_ok-later.later, Alt c.in-Some.number s)) (sym c.in_ok-inside.ensures.ok) (record {
       whole =
-          argument_whole counts c.grammar-grammar.ensures.kept c.args.node c.args.supply c.requires.reached c.requires.union c.requires.asked
-          c.requires.some c.len-n.result c.len-n.ensures
-          c.in-Some.number c.child-child.result c.in-Some.ensures.some c.grammar-grammar.result.now c.grammar-grammar.ensures.value
-          c.child-child.ensures.value
-          c.in_ok-later-2.later c.in_ok-later-3.later.value c.in_ok-later-2.inside c.in_ok-inside.inside.value c.in_ok-copy_supply.field-0 c.in_ok-argument.argument.value
-          c.in_ok-copy_supply.ensures
-          c.in_ok-later-3.ensures.ok c.in_ok-inside.ensures.ok c.in_ok-argument.ensures.ok c.in_ok-later-2.ensures;
-      stands =
-          argument_stands counts c.grammar-grammar.ensures.kept c.args.node c.args.supply c.requires.reached c.requires.union c.requires.asked
-          c.requires.some c.len-n.result c.len-n.ensures
-          c.in-Some.number c.child-child.result c.in-Some.ensures.some c.grammar-grammar.result.now c.grammar-grammar.ensures.value
-          c.child-child.ensures.value
-          c.in_ok-later-2.later c.in_ok-later-3.later.value c.in_ok-later-2.inside c.in_ok-inside.inside.value c.in_ok-copy_supply.field-0 c.in_ok-argument.argument.value
-          c.in_ok-copy_supply.ensures
-          c.in_ok-later-3.ensures.ok c.in_ok-inside.ensures.ok c.in_ok-argument.ensures.ok c.in_ok-later-2.ensures;
-    }
+          by_arguments counts ok c.args.node c.args.supply c.requires.union c.requires.asked
+          ∙ next.0 ∙ ap (λ ss. Alt c.in-Some.number c.in_ok-inner.inside ∷ ss) (sym (c.in_ok-later.ensures.after c.in_ok-inner.inside));
+      stands = c.in_ok-later.ensures.stands c.in_ok-inner.inside next.1;
+    })
