@@ -1,13 +1,14 @@
 -- The search for the first of the least rotations: of two places one is passed over, with all that were compared behind it.
-use Rattle.std.proofs.Common.{◌≡◌, ◌⊎◌, ℕ, zero, suc, ◌+◌, ◌-◌, ◌<◌, ◌≤◌, Bool, true, false, not, ◌&&◌, List, [], ◌∷◌, ◌++◌, length, slice_get, Some, refl, sym, ap, ◌∙◌, subst, inl, inr, arith}
+use Rattle.std.proofs.Common.{◌≡◌, ◌⊎◌, ℕ, zero, suc, ◌+◌, ◌-◌, ◌<◌, ◌≤◌, true, false, List, [], ◌∷◌, ◌++◌, length, slice_get, Some, refl, sym, ap, ◌∙◌, subst, inl, inr, arith}
 use Rattle.std.specs.declared.cmp.Ordering.{Ordering}
 use Rattle.std.specs.declared.cmp.Ordering.TheVariants.{Less, Equal, Greater}
 use Rattle.std.specs.Ordering.{is_gt, ordering_then, ordering_reverse}
 use Rattle.std.proofs.lemmas.Bool.{cases_lt}
 use Rattle.std.proofs.lemmas.Cmp.{alike_right, tied_itself}
 use Rattle.struct_model.specs.Structure.{Structure}
-use Rattle.struct_model.specs.Order.{order, list_order, rotated, is_least_of, is_least_rotation}
+use Rattle.struct_model.specs.Order.{order, list_order, rotated, is_least_rotation}
 use Rattle.struct_model.proofs.OrderLaws.{order_total, order_same, list_order_total}
+use Rattle.struct_model.proofs.Rotations.{none_before, one_before}
 use Rattle.canon.specs.Rotations.{IsLeastPlace, IsRotation}
 use Rattle.canon.proofs.Turning.{same_lists, length-rotated, rotated_at, once_more, rotated_none, turned_again}
 
@@ -57,11 +58,6 @@ record IsLeastAmong (ss : List Structure) (n i : ℕ) : Type 0 where
   within : i < n
   least : (k : ℕ) → k < n → list_order (rotated ss i) (rotated ss k) ≡ Greater → ⊥
   first : (k : ℕ) → k < i → list_order (rotated ss i) (rotated ss k) ≡ Less
-
-not_gt : (o : Ordering) → (o ≡ Greater → ⊥) → is_gt o ≡ false
-not_gt Less h = refl
-not_gt Equal h = refl
-not_gt Greater h = absurd (h refl)
 
 gt_not : (o : Ordering) → is_gt o ≡ false → o ≡ Greater → ⊥
 gt_not o h e = let wrong : false ≡ true = sym h ∙ ap is_gt e in cc
@@ -338,33 +334,6 @@ search_end ss best other equal search done =
     ]
 
 -- ---- a list that is its own least rotation
-
-none_before : (n : ℕ) (ss : List Structure) → ((k : ℕ) → k < n → list_order ss (rotated ss k) ≡ Greater → ⊥) → is_least_of n ss ≡ true
-none_before zero ss h = refl
-none_before (suc n) ss h =
-    let here : is_gt (list_order ss (rotated ss n)) ≡ false = not_gt (list_order ss (rotated ss n)) (h n (omega arith)) in
-    let later : is_least_of n ss ≡ true = none_before n ss (λ k less. h k (up k less)) in
-    cc
-  where
-    up : (k : ℕ) → k < n → k < suc n
-    up k less = omega arith
-
-one_before : (n : ℕ) (ss : List Structure) (k : ℕ) → k < n → list_order ss (rotated ss k) ≡ Greater → is_least_of n ss ≡ false
-one_before zero ss k less h = absurd (omega arith)
-one_before (suc n) ss k less h = elim (cases_lt k n) [
-  | inl before ↦ second (is_gt (list_order ss (rotated ss n))) (is_least_of n ss) (one_before n ss k before h)
-  | inr here ↦
-      let same : k ≡ n = omega arith in
-      let after : is_gt (list_order ss (rotated ss n)) ≡ true = ap is_gt (subst (λ (m : ℕ). list_order ss (rotated ss m) ≡ Greater) same h) in
-      first (is_gt (list_order ss (rotated ss n))) (is_least_of n ss) after
-]
-  where
-    first : (a b : Bool) → a ≡ true → not a && b ≡ false
-    first a b e = cc
-
-    second : (a b : Bool) → b ≡ false → not a && b ≡ false
-    second true b e = refl
-    second false b e = e
 
 -- the rotation at the least place is its own least rotation
 pub least_rotated : (ss : List Structure) (i : ℕ) → IsLeastPlace ss i → is_least_rotation (rotated ss i) ≡ true

@@ -5,7 +5,7 @@ mod membership;
 mod rotation;
 mod sorted;
 
-pub use membership::{is_member, is_structure};
+pub use membership::{is_member, is_of_rule, is_structure};
 pub use rotation::{is_least, least_rotation, rotate_least};
 pub use sorted::put_sorted;
 

@@ -254,6 +254,16 @@ fn are_of(spec: &Spec, universe: Universe, element: &Expr, parts: &[Struct]) -> 
     true
 }
 
+/// Whether `s` is a structure of rule number `sym`, counted from 1. The labels needn't be those of a size. It takes no memory.
+pub fn is_of_rule(grammar: &Grammar, sym: u32, s: &Struct) -> bool
+    requires low { 1 ≤ sym }
+    requires high { sym ≤ length grammar.now.rules }
+    ensures { result ≡ is_of (grammar_of grammar.now) (NameOf (rule_name grammar.now.rules sym)) s.now }
+{
+    let spec = grammar.spec();
+    is_of_name(spec, grammar.universe(), spec.name(sym).as_slice(), s)
+}
+
 /// The number of atoms of `s` that carry the label.
 #[cycle(counting)]
 fn count_label(s: &Struct, label: u32) -> u32
@@ -317,9 +327,7 @@ pub fn is_member(grammar: &Grammar, sym: u32, n: u32, s: &Struct) -> bool
     requires high { sym ≤ length grammar.now.rules }
     ensures { result ≡ is_member (grammar_of grammar.now) (rule_name grammar.now.rules sym) n s.now }
 {
-    let spec = grammar.spec();
-    let universe = grammar.universe();
-    is_of_name(spec, universe, spec.name(sym).as_slice(), s) && has_labels_of_size(universe, n, s)
+    is_of_rule(grammar, sym, s) && has_labels_of_size(grammar.universe(), n, s)
 }
 
 #[cfg(test)]

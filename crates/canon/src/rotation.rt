@@ -21,6 +21,7 @@ fn around(items: &[Struct], place: usize) -> &Struct
 
 /// The place at which the least rotation of the list begins, the first such place where there are several.
 ///
+/// Two places are compared, and the one whose rotation is after the other's moves on behind what was equal (Shiloach 1981).
 /// It takes no memory, and compares fewer than three times as many structures as the list has.
 pub fn least_rotation(items: &[Struct]) -> usize
     requires { 0 < length items.now }

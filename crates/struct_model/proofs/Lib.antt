@@ -8,3 +8,4 @@ pub mod PartsOrder
 pub mod OrderLaws
 pub mod ListingLaws
 pub mod SupplyLaws
+pub mod Rotations

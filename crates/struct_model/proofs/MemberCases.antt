@@ -1,4 +1,4 @@
--- Worked cases of membership, text and listing, by computing.
+-- Worked cases of membership and listing, by computing.
 use Rattle.std.specs.Prelude.{◌≡◌, ℕ, Bool, true, false, List, [], ◌∷◌, refl, codes, Some, None}
 use Rattle.spec_syntax.specs.declared.statement.Universe.{Universe}
 use Rattle.spec_syntax.specs.declared.statement.Universe.TheVariants.{Labelled, Unlabelled}
@@ -12,7 +12,6 @@ use Rattle.struct_model.specs.declared.tree.Form5.TheVariants as form
 use Rattle.struct_model.specs.Structure.{Structure, Eps, Atom, Named, Alt, Tup, parts_of}
 use Rattle.struct_model.specs.Membership.{is_of, is_member, supply, is_supply}
 use Rattle.struct_model.specs.Bounded.{listing_within}
-use Rattle.struct_model.specs.Text.{maple}
 
 abbrev class : Universe → List (List ℕ × Expression) → Grammar
 class universe rules = record { rules = rules; universe = universe }
@@ -80,9 +79,6 @@ wrong_form = refl
 
 labelled_leaf : is_member binary (codes "B") 1 (Named 1 (Alt 1 (Atom 0 1))) ≡ false
 labelled_leaf = refl
-
-text_of_comb : maple binary.rules (fork leaf (fork leaf leaf)) ≡ codes "Prod(Z, Prod(Z, Z))"
-text_of_comb = refl
 
 -- ---- permutations: P = Set(Cycle(Z)), labelled
 
@@ -175,12 +171,6 @@ rule_of_epsilon = refl
 
 rule_of_atom : is_member worded (codes "A") 1 (Atom 2 0) ≡ true
 rule_of_atom = refl
-
-text_of_rules : maple worded.rules (triple (Atom 0 0) (Atom 2 0) (Eps 3)) ≡ codes "Prod(Z, A, E)"
-text_of_rules = refl
-
-text_of_words : maple worded.rules (product (Atom 0 0 ∷ Eps 0 ∷ sequence [] ∷ [])) ≡ codes "Prod(Z, Epsilon, Sequence())"
-text_of_words = refl
 
 -- ---- a rule named Z is a rule like any other: Z = Prod(Atom, Atom), D = Z
 

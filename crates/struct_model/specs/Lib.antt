@@ -8,5 +8,4 @@ pub mod Membership
 pub mod SupplyView
 pub mod Listing
 pub mod Bounded
-pub mod Text
 pub mod Laws

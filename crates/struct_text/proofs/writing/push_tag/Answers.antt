@@ -1,0 +1,13 @@
+use Rattle.std.proofs.Common.{codes}
+use Rattle.std.proofs.lemmas.Result.{on_err_weaker}
+use Rattle.struct_text.specs.Text.{numeral}
+use Rattle.struct_text.proofs.Fronts.{at_err, nothing_put, front_of_first, last_behind}
+use Rattle.struct_text.proofs.writing.push_tag.Goals as goal
+
+pub returns-in_err-push_number-clause-front : goal.returns-in_err-push_number-clause-front
+returns-in_err-push_number-clause-front c = at_err c.from_residual.result _ (front_of_first _ _ (numeral c.args.argument) (codes ":") c.in_err-push_number.ensures.front)
+
+pub returns-clause-front : goal.returns-clause-front
+returns-clause-front c =
+    let last = c.extend_from_slice.result in
+    last_behind last _ _ _ (numeral c.args.argument) (codes ":") c.in_ok-push_number.ensures.whole (on_err_weaker last (nothing_put _ _ (codes ":")) c.extend_from_slice.ensures.err)
