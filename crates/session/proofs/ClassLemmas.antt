@@ -5,10 +5,9 @@ use Rattle.spec_syntax.specs.Expression.{Name}
 use Rattle.spec_syntax.specs.Rules.{Rules, rule_name, symbol as symbol_of}
 use Rattle.spec_syntax.specs.Grammar.{Grammar}
 use Rattle.spec_syntax.proofs.RuleNames.{name_own}
-use Rattle.struct_model.specs.Structure.{Structure, parts_of}
 use Rattle.struct_model.specs.Membership.{supply}
 use Rattle.struct_model.specs.Bounded.{listing, number}
-use Rattle.struct_model.specs.Text.{maple_parts}
+use Rattle.struct_text.specs.declared.form.TextForm.{TextForm}
 use Rattle.well_founded.specs.Names.{name_without_rule, symbol_without_rule, undefined_name}
 use Rattle.well_founded.specs.declared.refused.Refused.{Refused}
 use Rattle.well_founded.specs.declared.refused.Refused.TheVariants as check
@@ -19,10 +18,10 @@ use Rattle.session.specs.Refusals.{CheckIsTold}
 use Rattle.session.specs.Effect.{structures_text, listing_text, number_text}
 
 -- the text of the listing of a checked class is that of the class
-pub text_listed : (checked : Checked) (symbol : List ℕ) (n size : ℕ) → symbol_of checked.rules symbol ≡ Some n
-    → structures_text checked.rules (listing_of_rule checked n size) ≡ listing_text (grammar checked) symbol size
-text_listed checked symbol n size found =
-    ap (structures_text checked.rules)
+pub text_listed : (texts : TextForm) (checked : Checked) (symbol : List ℕ) (n size : ℕ) → symbol_of checked.rules symbol ≡ Some n
+    → structures_text texts checked.rules (listing_of_rule checked n size) ≡ listing_text texts (grammar checked) symbol size
+text_listed texts checked symbol n size found =
+    ap (structures_text texts checked.rules)
     (ap (λ (name : List ℕ). listing (grammar checked) (Name name) (supply checked.universe size)) (name_own checked.rules symbol n found))
 
 -- and so is the text of its number

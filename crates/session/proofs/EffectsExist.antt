@@ -16,10 +16,9 @@ use Rattle.well_founded.proofs.CheckExists.{says_some, says_one}
 use Rattle.size_counts.specs.declared.place.Place.{Place}
 use Rattle.size_counts.specs.Numbers.{NumbersSay}
 use Rattle.size_counts.proofs.SaysLaws as numbers
+use Rattle.struct_text.specs.declared.form.TextForm.{TextForm}
 use Rattle.session.specs.declared.refusal.Refusal.TheVariants as refusal
-use Rattle.session.specs.declared.texts.TextForm.{TextForm}
-use Rattle.session.specs.declared.texts.TextForm.TheVariants.{Maple, Tagged}
-use Rattle.session.specs.Effect.{Effect, Setting, AnswerText, NumberedDoes, NumbersDo, CheckedDoes, CheckDoes, JobDoes, ListingDoes, FormDoes, doing_nothing, answering, refusing, listing_text, number_text}
+use Rattle.session.specs.Effect.{Effect, Setting, AnswerText, NumberedDoes, NumbersDo, CheckedDoes, CheckDoes, JobDoes, FormDoes, doing_nothing, answering, refusing, listing_text, number_text}
 use Rattle.session.specs.Laws.{SomeEffect, OneEffect}
 use Rattle.session.proofs.ClassLemmas.{has_rule}
 
@@ -50,14 +49,14 @@ some-job answer (job.Grammar (class_ref.Written symbol (rules_ref.Written rules)
     some-class answer (record { rules = rules; universe = universe }) symbol size setting keeps
 some-job answer other setting in_force keeps = absurd in_force
 
-some-form : (f : Form) (setting : Setting) → FormIsInForce f → FormKeeps f → (whole : Effect) × FormDoes f Maple setting whole
-some-form form.Empty setting in_force keeps = (doing_nothing setting, refl)
-some-form (form.Count work) setting in_force keeps = some-job number_text work setting in_force keeps
-some-form (form.List work) setting in_force keeps = some-job listing_text work setting in_force keeps
-some-form other setting in_force keeps = absurd in_force
+some-form : (f : Form) (texts : TextForm) (setting : Setting) → FormIsInForce f → FormKeeps f → (whole : Effect) × FormDoes f texts setting whole
+some-form form.Empty texts setting in_force keeps = (doing_nothing setting, refl)
+some-form (form.Count work) texts setting in_force keeps = some-job number_text work setting in_force keeps
+some-form (form.List work) texts setting in_force keeps = some-job (listing_text texts) work setting in_force keeps
+some-form other texts setting in_force keeps = absurd in_force
 
 pub some_effect : SomeEffect
-some_effect statement line state in_force keeps = some-form statement.form (record { is_quiet = statement.quiet; line = line; state = state }) in_force keeps
+some_effect statement line texts state in_force keeps = some-form statement.form texts (record { is_quiet = statement.quiet; line = line; state = state }) in_force keeps
 
 -- ---- and no other
 
@@ -94,15 +93,10 @@ one-job answer (job.Grammar (class_ref.Written symbol (rules_ref.Written rules) 
     one-class answer (record { rules = rules; universe = universe }) symbol size setting one other keeps p q
 one-job answer other_work setting one other in_force keeps p q = absurd in_force
 
-one-listing : (texts : TextForm) (work : Job) (setting : Setting) (one other : Effect) → JobIsInForce work → JobPasses is_spec work
-    → ListingDoes texts work setting one → ListingDoes texts work setting other → one ≡ other
-one-listing Maple work setting one other in_force keeps p q = one-job listing_text work setting one other in_force keeps p q
-one-listing Tagged work setting one other in_force keeps p q = absurd p
-
 one-form : (f : Form) (texts : TextForm) (setting : Setting) (one other : Effect) → FormIsInForce f → FormKeeps f → FormDoes f texts setting one → FormDoes f texts setting other → one ≡ other
 one-form form.Empty texts setting one other in_force keeps p q = p ∙ sym q
 one-form (form.Count work) texts setting one other in_force keeps p q = one-job number_text work setting one other in_force keeps p q
-one-form (form.List work) texts setting one other in_force keeps p q = one-listing texts work setting one other in_force keeps p q
+one-form (form.List work) texts setting one other in_force keeps p q = one-job (listing_text texts) work setting one other in_force keeps p q
 one-form other_form texts setting one other in_force keeps p q = absurd in_force
 
 pub one_effect : OneEffect

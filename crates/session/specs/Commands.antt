@@ -1,5 +1,6 @@
 -- What the code's commands ask for, and what its answers come to.
 use Rattle.std.specs.Prelude.{◌≡◌, false}
+use Rattle.struct_text.specs.declared.form.TextForm.{TextForm}
 use Rattle.session.specs.declared.answer.Command.{Command}
 use Rattle.session.specs.declared.answer.Command.TheVariants as command
 use Rattle.session.specs.declared.answer.Answer.{Answer}
@@ -7,17 +8,17 @@ use Rattle.session.specs.declared.answer.Answer.TheVariants as told
 use Rattle.session.specs.Refusals.{IsTold}
 use Rattle.session.specs.Effect.{AnswerText, Effect, Setting, doing_nothing, answering, refusing, structures_text, listing_text, number_text}
 
--- the text that a command asks for
-abbrev pub text_of : Command → AnswerText
-text_of command.Count = number_text
-text_of command.List = listing_text
+-- the text that a command asks for, where texts are in this form
+abbrev pub text_of : TextForm → Command → AnswerText
+text_of texts command.Count = number_text
+text_of texts command.List = listing_text texts
 
--- the effect of an answer, once it is written
-abbrev pub effect_of : Answer → Setting → Effect
-effect_of told.Nothing setting = doing_nothing setting
-effect_of (told.Text text) setting = answering setting text
-effect_of (told.Members members) setting = answering setting (structures_text members.counts.checked.rules members.rest)
-effect_of (told.Refused why) setting = refusing setting why
+-- the effect of an answer, once it is written with texts in this form
+abbrev pub effect_of : TextForm → Answer → Setting → Effect
+effect_of texts told.Nothing setting = doing_nothing setting
+effect_of texts (told.Text text) setting = answering setting text
+effect_of texts (told.Members members) setting = answering setting (structures_text texts members.counts.checked.rules members.rest)
+effect_of texts (told.Refused why) setting = refusing setting why
 
 -- the answer can be written: a line can tell a refusal, and a walk isn't broken
 abbrev pub CanBeTold : Answer → Type 0

@@ -16,16 +16,15 @@ use Rattle.spec_syntax.specs.Grammar.{Grammar}
 use Rattle.struct_model.specs.Structure.{Structure, parts_of}
 use Rattle.struct_model.specs.Membership.{supply}
 use Rattle.struct_model.specs.Bounded.{listing, number}
-use Rattle.struct_model.specs.Text.{maple_parts}
 use Rattle.well_founded.specs.declared.refused.Refused.{Refused}
 use Rattle.well_founded.specs.WellFounded.{Checks}
 use Rattle.size_counts.specs.declared.place.Place.{Place}
 use Rattle.size_counts.specs.Numbers.{NumbersSay}
 use Rattle.comb_io.specs.Writes.{Write, to_out, to_err}
+use Rattle.struct_text.specs.declared.form.TextForm.{TextForm}
+use Rattle.struct_text.specs.Text.{parts_text}
 use Rattle.session.specs.declared.refusal.Refusal.{Refusal}
 use Rattle.session.specs.declared.refusal.Refusal.TheVariants as refusal
-use Rattle.session.specs.declared.texts.TextForm.{TextForm}
-use Rattle.session.specs.declared.texts.TextForm.TheVariants as text_form
 use Rattle.session.specs.Refusals.{refusal_number, refusal_line}
 
 -- what a session keeps from one statement to the next. No name is bound and no bit is drawn yet, so it is nothing
@@ -66,13 +65,13 @@ refusing setting why = record { writes = to_err (refusal_line setting.line why);
 abbrev pub AnswerText : Type 0
 AnswerText = Grammar → List ℕ → ℕ → List ℕ
 
--- the texts of structures in Maple's form, in brackets
-abbrev pub structures_text : Rules → List Structure → List ℕ
-structures_text rules ss = codes "[" ++ maple_parts rules (parts_of ss) ++ codes "]\n"
+-- the texts of structures in this form, in brackets
+abbrev pub structures_text : TextForm → Rules → List Structure → List ℕ
+structures_text texts rules ss = codes "[" ++ parts_text texts rules (parts_of ss) ++ codes "]\n"
 
 -- `allstructs`: those of the class
-abbrev pub listing_text : AnswerText
-listing_text g symbol size = structures_text g.rules (listing g (Name symbol) (supply g.universe size))
+abbrev pub listing_text : TextForm → AnswerText
+listing_text texts g symbol size = structures_text texts g.rules (listing g (Name symbol) (supply g.universe size))
 
 -- `count`: how many there are
 abbrev pub number_text : AnswerText
@@ -118,11 +117,6 @@ JobDoes answer (job.Ready family over size) setting whole = ⊥
 
 -- ---- statements
 
--- no text in the tagged form is stated yet
-abbrev pub ListingDoes : TextForm → Job → Setting → Effect → Type 0
-ListingDoes text_form.Maple work setting whole = JobDoes listing_text work setting whole
-ListingDoes text_form.Tagged work setting whole = ⊥
-
 -- a statement of this form does this, where texts are in this form. What isn't in force is never read, so no effect is
 -- stated of it
 abbrev pub FormDoes : Form → TextForm → Setting → Effect → Type 0
@@ -131,7 +125,7 @@ FormDoes (form.Rules name rules) texts setting whole = ⊥
 FormDoes (form.Class name class) texts setting whole = ⊥
 FormDoes (form.Iterate name work cursor) texts setting whole = ⊥
 FormDoes (form.Count work) texts setting whole = JobDoes number_text work setting whole
-FormDoes (form.List work) texts setting whole = ListingDoes texts work setting whole
+FormDoes (form.List work) texts setting whole = JobDoes (listing_text texts) work setting whole
 FormDoes (form.Draw work) texts setting whole = ⊥
 FormDoes (form.Next name) texts setting whole = ⊥
 FormDoes (form.Finished name) texts setting whole = ⊥

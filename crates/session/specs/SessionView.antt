@@ -1,6 +1,6 @@
 -- What contracts see of a session.
 use Rattle.std.specs.Prelude.{Bool}
-use Rattle.session.specs.declared.texts.TextForm.{TextForm}
+use Rattle.struct_text.specs.declared.form.TextForm.{TextForm}
 use Rattle.session.specs.Effect.{State}
 
 -- the form of its texts, what it keeps from one statement to the next, and whether it is live: no statement ended with a fault

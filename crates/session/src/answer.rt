@@ -4,7 +4,7 @@ ghost use Rattle.spec_syntax.specs.Rules.{is_spec, are_sequences, symbol as symb
 ghost use Rattle.spec_reader.specs.Laws.{JobIsInForce, JobPasses, JobIsSmall, FormIsInForce, FormKeeps, FormIsSmall, FormHasSequences};
 ghost use Rattle.well_founded.specs.Checked.{grammar as grammar_of};
 ghost use Rattle.session.specs.Refusals.{CheckIsTold};
-ghost use Rattle.session.specs.declared.texts.TextForm.TheVariants.{Maple};
+ghost use Rattle.struct_text.specs.declared.form.TextForm.{TextForm};
 ghost use Rattle.session.specs.Effect.{Effect, Setting, answering, NumbersDo, CheckDoes, JobDoes, FormDoes};
 ghost use Rattle.session.specs.Commands.{text_of, effect_of, CanBeTold};
 
@@ -58,9 +58,10 @@ fn answer_counted(
     sym: u32,
 ) -> Result<Answer, AllocError>
     requires start { counted.checked.start ≡ Some sym }
+    requires sequences { IsTrue (are_sequences counted.checked.rules) }
     ensures told { IfOk result CanBeTold }
-    ensures does { (symbol : List ℕ) (setting : Setting) → setting.is_quiet ≡ quiet → symbol_of counted.checked.rules symbol ≡ Some sym
-        → IfOk result (λ answer. effect_of answer setting ≡ answering setting (text_of command (grammar_of counted.checked) symbol counted.size)) }
+    ensures does { (texts : TextForm) (symbol : List ℕ) (setting : Setting) → setting.is_quiet ≡ quiet → symbol_of counted.checked.rules symbol ≡ Some sym
+        → IfOk result (λ answer. effect_of texts answer setting ≡ answering setting (text_of texts command (grammar_of counted.checked) symbol counted.size)) }
 {
     match command {
         Command::Count => {
@@ -89,8 +90,8 @@ fn answer_checked(
     requires start { grammar.start ≢ None }
     requires size { size ≤ 1000 }
     ensures told { IfOk result CanBeTold }
-    ensures does { (symbol : List ℕ) (setting : Setting) (whole : Effect) → setting.is_quiet ≡ quiet → grammar.start ≡ symbol_of grammar.rules symbol
-        → NumbersDo (text_of command) (grammar_of grammar) symbol size setting whole → IfOk result (λ answer. whole ≡ effect_of answer setting) }
+    ensures does { (texts : TextForm) (symbol : List ℕ) (setting : Setting) (whole : Effect) → setting.is_quiet ≡ quiet → grammar.start ≡ symbol_of grammar.rules symbol
+        → NumbersDo (text_of texts command) (grammar_of grammar) symbol size setting whole → IfOk result (λ answer. whole ≡ effect_of texts answer setting) }
 {
     let Some(sym) = grammar.start() else {
         unreachable!();
@@ -134,8 +135,8 @@ fn answer_class(
     requires sequences { IsTrue (are_sequences spec.now) }
     requires size { size ≤ 1000 }
     ensures told { IfOk result CanBeTold }
-    ensures does { (setting : Setting) (whole : Effect) → setting.is_quiet ≡ quiet → CheckDoes (text_of command) (record { rules = spec.now; universe = universe }) symbol.now size setting whole
-        → IfOk result (λ answer. whole ≡ effect_of answer setting) }
+    ensures does { (texts : TextForm) (setting : Setting) (whole : Effect) → setting.is_quiet ≡ quiet → CheckDoes (text_of texts command) (record { rules = spec.now; universe = universe }) symbol.now size setting whole
+        → IfOk result (λ answer. whole ≡ effect_of texts answer setting) }
 {
     match check(alloc, spec, Some(symbol), universe) {
         Ok(grammar) => answer_checked(alloc, command, quiet, spec, grammar, size),
@@ -153,8 +154,8 @@ fn answer_job(alloc: Global, command: Command, quiet: bool, job: &Job) -> Result
     requires small { JobIsSmall job.now }
     requires keeps { JobPasses is_spec job.now }
     ensures told { IfOk result CanBeTold }
-    ensures does { (setting : Setting) (whole : Effect) → setting.is_quiet ≡ quiet → JobDoes (text_of command) job.now setting whole
-        → IfOk result (λ answer. whole ≡ effect_of answer setting) }
+    ensures does { (texts : TextForm) (setting : Setting) (whole : Effect) → setting.is_quiet ≡ quiet → JobDoes (text_of texts command) job.now setting whole
+        → IfOk result (λ answer. whole ≡ effect_of texts answer setting) }
 {
     match job {
         Job::Grammar(ClassRef::Written(symbol, RulesRef::Written(spec), universe), size) => {
@@ -172,8 +173,8 @@ pub(crate) fn answer_form(alloc: Global, quiet: bool, form: &Form) -> Result<Ans
     requires small { FormIsSmall form.now }
     requires keeps { FormKeeps form.now }
     ensures told { IfOk result CanBeTold }
-    ensures does { (setting : Setting) (whole : Effect) → setting.is_quiet ≡ quiet → FormDoes form.now Maple setting whole
-        → IfOk result (λ answer. whole ≡ effect_of answer setting) }
+    ensures does { (texts : TextForm) (setting : Setting) (whole : Effect) → setting.is_quiet ≡ quiet → FormDoes form.now texts setting whole
+        → IfOk result (λ answer. whole ≡ effect_of texts answer setting) }
 {
     match form {
         Form::Empty => Ok(Answer::Nothing),

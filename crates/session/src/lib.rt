@@ -7,14 +7,12 @@ mod laws;
 mod members;
 mod refusal;
 mod session;
-mod text;
-mod texts;
 
 pub use fault::{Outcome, SessionFault};
 pub use laws::each_statement_has_one_effect;
 pub use refusal::{Refusal, refusal_line};
 pub use session::Session;
-pub use texts::TextForm;
+pub use struct_text::TextForm;
 
 #[cfg(test)]
 mod tests;

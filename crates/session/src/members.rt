@@ -5,16 +5,16 @@ ghost use Rattle.std.specs.Prelude.{◌≡◌, ◌++◌, ℕ, false, codes, IfOk
 ghost use Rattle.std.specs.Io.KnownBytes.{Appends};
 ghost use Rattle.comb_io.specs.Parts.{AppendsPart, AppendsBefore};
 ghost use Rattle.struct_model.specs.Structure.{parts_of};
-ghost use Rattle.struct_model.specs.Text.{maple_rest};
+ghost use Rattle.struct_text.specs.Text.{others_text};
 ghost use Rattle.session.specs.Effect.{structures_text};
 ghost use Rattle.session.specs.Ending.{unwritten_by, HasStepCause};
 ghost use Rattle.session.specs.Members.{PutsMember};
 
-use crate::text::push_structure;
-use crate::{SessionFault, TextForm};
+use crate::SessionFault;
 use comb_io::{Sink, SinkFault, write_all};
 use spec_syntax::Bytes;
 use std::alloc::{AllocError, Global};
+use struct_text::{TextForm, write_text};
 use struct_walk::{Iter, Walk};
 
 /// So much text is held before it is written, and the text of one member more.
@@ -33,16 +33,15 @@ pub(crate) fn write_out<O: Sink>(text: &Bytes, out: &mut O) -> Result<(), Sessio
     }
 }
 
-/// Puts the text of the member that comes next at the end and passes the member, if one is left.
+/// Puts the text in this form of the member that comes next at the end and passes the member, if one is left.
 fn push_member(
     alloc: Global,
     texts: TextForm,
     members: &mut Iter,
     text: &mut Bytes,
 ) -> Result<bool, AllocError>
-    requires texts { texts ≡ TextForm.Maple }
     requires whole { members.old.is_broken ≡ false }
-    ensures puts { IfOk result (PutsMember members.old.counts.checked.rules members.old.rest members.new.rest text.old text.new) }
+    ensures puts { IfOk result (PutsMember texts members.old.counts.checked.rules members.old.rest members.new.rest text.old text.new) }
     ensures whole { OnOk result (members.new.is_broken ≡ false) }
     ensures counts { members.new.counts ≡ members.old.counts }
 {
@@ -50,10 +49,7 @@ fn push_member(
         return Ok(false);
     };
     let spec = members.counted().grammar().spec();
-    match texts {
-        TextForm::Maple => push_structure(spec, member, text)?,
-        TextForm::Tagged => unreachable!(),
-    }
+    write_text(texts, spec, member, text)?;
     members.pass(alloc)?;
     Ok(true)
 }
@@ -71,8 +67,8 @@ fn write_long<O: Sink>(alloc: Global, text: Bytes, out: &mut O) -> Result<Bytes,
     Ok(Bytes::new(alloc))
 }
 
-/// Writes a text and those of the members that are left, each after a comma and a space, and answers what is still to be
-/// written of it.
+/// Writes a text and those in this form of the members that are left, each after a comma and a space, and answers what is
+/// still to be written of it.
 fn write_later<O: Sink>(
     alloc: Global,
     texts: TextForm,
@@ -80,10 +76,9 @@ fn write_later<O: Sink>(
     mut text: Bytes,
     out: &mut O,
 ) -> Result<Bytes, SessionFault>
-    requires texts { texts ≡ TextForm.Maple }
     requires whole { members.old.is_broken ≡ false }
-    ensures whole { IfOk result (AppendsBefore (O.written out.old) (O.written out.new) (text ++ maple_rest members.old.counts.checked.rules (parts_of members.old.rest))) }
-    ensures part { IfErr result (λ fault. AppendsPart (unwritten_by fault) (O.written out.old) (O.written out.new) (text ++ maple_rest members.old.counts.checked.rules (parts_of members.old.rest))) }
+    ensures whole { IfOk result (AppendsBefore (O.written out.old) (O.written out.new) (text ++ others_text texts members.old.counts.checked.rules (parts_of members.old.rest))) }
+    ensures part { IfErr result (λ fault. AppendsPart (unwritten_by fault) (O.written out.old) (O.written out.new) (text ++ others_text texts members.old.counts.checked.rules (parts_of members.old.rest))) }
     ensures cause { (err : ℕ) → HasStepCause (O.faults out.old) (O.faults out.new) err err result }
 {
     while !members.finished() {
@@ -94,17 +89,17 @@ fn write_later<O: Sink>(
     Ok(text)
 }
 
-/// Writes the line that answers an `allstructs` statement: the texts of the members that are left in brackets.
+/// Writes the line that answers an `allstructs` statement: the texts in this form of the members that are left,
+/// in brackets.
 pub(crate) fn write_members<O: Sink>(
     alloc: Global,
     texts: TextForm,
     members: &mut Iter,
     out: &mut O,
 ) -> Result<(), SessionFault>
-    requires texts { texts ≡ TextForm.Maple }
     requires whole { members.old.is_broken ≡ false }
-    ensures whole { OnOk result (Appends (O.written out.old) (O.written out.new) (structures_text members.old.counts.checked.rules members.old.rest)) }
-    ensures part { IfErr result (λ fault. AppendsPart (unwritten_by fault) (O.written out.old) (O.written out.new) (structures_text members.old.counts.checked.rules members.old.rest)) }
+    ensures whole { OnOk result (Appends (O.written out.old) (O.written out.new) (structures_text texts members.old.counts.checked.rules members.old.rest)) }
+    ensures part { IfErr result (λ fault. AppendsPart (unwritten_by fault) (O.written out.old) (O.written out.new) (structures_text texts members.old.counts.checked.rules members.old.rest)) }
     ensures cause { (err : ℕ) → HasStepCause (O.faults out.old) (O.faults out.new) err err result }
 {
     let mut text = Bytes::from_slice(alloc, b"[")?;

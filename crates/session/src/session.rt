@@ -9,11 +9,12 @@ ghost use Rattle.session.specs.Commands.{effect_of, CanBeTold};
 use crate::answer::{Answer, answer_form};
 use crate::members::{write_members, write_out};
 use crate::refusal::refusal_number;
-use crate::{Outcome, Refusal, SessionFault, TextForm, refusal_line};
+use crate::{Outcome, Refusal, SessionFault, refusal_line};
 use comb_io::{Sink, SinkFault, write_all};
 use spec_syntax::{Bytes, Statement};
 use std::alloc::{AllocError, Global};
 use std::marker::Model;
+use struct_text::TextForm;
 use struct_walk::Iter;
 
 /// What runs statements one after another, and keeps what they leave.
@@ -31,13 +32,9 @@ impl Model for Session {
 
     ghost Value = { Standing };
 
-    ghost use Rattle.std.specs.Prelude.{◌≡◌};
     ghost use Rattle.session.specs.Effect.{first_state};
-    ghost use Rattle.session.specs.declared.texts.TextForm.TheVariants.{Maple};
 
     ghost view = { λ a. record { texts = a.texts; state = first_state; is_live = a.live } };
-
-    ghost invariant = { λ a. a.texts ≡ Maple };
 }
 
 /// Writes a text to out, unless the statement ends with a colon.
@@ -52,7 +49,7 @@ fn write_text<O: Sink>(text: &Bytes, quiet: bool, out: &mut O) -> Result<Outcome
     Ok(Outcome::Done)
 }
 
-/// Writes the texts of a class's members to out, unless the statement ends with a colon.
+/// Writes the texts of a class's members in this form to out, unless the statement ends with a colon.
 fn write_listing<O: Sink>(
     alloc: Global,
     texts: TextForm,
@@ -60,12 +57,11 @@ fn write_listing<O: Sink>(
     quiet: bool,
     out: &mut O,
 ) -> Result<Outcome, SessionFault>
-    requires texts { texts ≡ TextForm.Maple }
     requires whole { members.old.is_broken ≡ false }
     ensures cause { (err : ℕ) → HasStepCause (O.faults out.old) (O.faults out.new) err err result }
     ensures makes { (line : ℕ) (state : State) (err : Option (List ℕ))
         → Makes (O.written out.old) (O.written out.new) err err
-        (answering (record { is_quiet = quiet; line = line; state = state }) (structures_text members.old.counts.checked.rules members.old.rest)) result }
+        (answering (record { is_quiet = quiet; line = line; state = state }) (structures_text texts members.old.counts.checked.rules members.old.rest)) result }
 {
     if !quiet {
         write_members(alloc, texts, members, out)?;
@@ -94,7 +90,7 @@ fn write_refusal<E: Sink>(
     }
 }
 
-/// Writes what a statement comes to.
+/// Writes what a statement comes to, with texts in this form.
 fn write_answer<O: Sink, E: Sink>(
     alloc: Global,
     texts: TextForm,
@@ -104,11 +100,10 @@ fn write_answer<O: Sink, E: Sink>(
     out: &mut O,
     err: &mut E,
 ) -> Result<Outcome, SessionFault>
-    requires texts { texts ≡ TextForm.Maple }
     requires told { CanBeTold answer.old }
     ensures cause { HasStepCause (O.faults out.old) (O.faults out.new) (E.faults err.old) (E.faults err.new) result }
     ensures makes { (state : State) → Makes (O.written out.old) (O.written out.new) (E.written err.old) (E.written err.new)
-        (effect_of answer.old (record { is_quiet = quiet; line = line; state = state })) result }
+        (effect_of texts answer.old (record { is_quiet = quiet; line = line; state = state })) result }
 {
     match answer {
         Answer::Nothing => Ok(Outcome::Done),
@@ -118,7 +113,7 @@ fn write_answer<O: Sink, E: Sink>(
     }
 }
 
-/// Runs a statement, which begins in this line.
+/// Runs a statement, which begins in this line, with texts in this form.
 fn run<O: Sink, E: Sink>(
     alloc: Global,
     texts: TextForm,
@@ -127,7 +122,6 @@ fn run<O: Sink, E: Sink>(
     out: &mut O,
     err: &mut E,
 ) -> Result<Outcome, SessionFault>
-    requires texts { texts ≡ TextForm.Maple }
     requires in_force { FormIsInForce statement.now.form }
     requires sequences { FormHasSequences statement.now.form }
     requires small { FormIsSmall statement.now.form }
@@ -141,20 +135,17 @@ fn run<O: Sink, E: Sink>(
 }
 
 impl Session {
-    /// A live session with texts in Maple's form.
+    /// A live session that writes texts of structures in this form.
     ///
     /// # Errors
     ///
     /// Memory may be wanting.
-    pub fn new(_alloc: Global) -> Result<Session, AllocError>
-        ensures texts { IfOk result (λ session. session.texts ≡ TextForm.Maple) }
+    pub fn new(_alloc: Global, texts: TextForm) -> Result<Session, AllocError>
+        ensures texts { IfOk result (λ session. session.texts ≡ texts) }
         ensures state { IfOk result (λ session. session.state ≡ first_state) }
         ensures live { IfOk result (λ session. IsTrue session.is_live) }
     {
-        Ok(Session {
-            texts: TextForm::Maple,
-            live: true,
-        })
+        Ok(Session { texts, live: true })
     }
 
     /// Runs a statement, which begins in this line of the script: what it answers goes to `out`, unless it ends with a

@@ -177,7 +177,7 @@ fn step_read<O: Sink, E: Sink>(
 
 const COUNT: &[u8] = b"count([B, {B = Union(Z, Prod(B, B))}], size = 3);";
 
-const LIST: &[u8] = b"allstructs([B, {B = Union(Z, Prod(B, B))}], size = 3);";
+const LIST: &[u8] = b"allstructs([B, {B = Union(Z, Prod(B, B))}, unlabelled], size = 3);";
 
 const QUIET: &[u8] = b"allstructs([B, {B = Union(Z, Prod(B, B))}], size = 3):";
 
@@ -186,7 +186,7 @@ const UNDEFINED: &[u8] = b"count([S, {S = Union(Z, T)}], size = 1):";
 #[test]
 fn steps(rt: HostRuntime) -> Result<(), Fail> {
     let alloc = rt.alloc();
-    let mut session = Session::new(alloc)?;
+    let mut session = Session::new(alloc, TextForm::Maple)?;
     let mut out = MemSink::new(alloc, 7, &[])?;
     let mut err = MemSink::new(alloc, 7, &[])?;
     let counted = step_read(alloc, &mut session, COUNT, &mut out, &mut err)?;
@@ -211,7 +211,7 @@ fn steps(rt: HostRuntime) -> Result<(), Fail> {
 #[test]
 fn a_failed_write_is_told(rt: HostRuntime) -> Result<(), Fail> {
     let alloc = rt.alloc();
-    let mut session = Session::new(alloc)?;
+    let mut session = Session::new(alloc, TextForm::Maple)?;
     let mut out = MemSink::new(alloc, 7, &[1])?;
     let mut err = MemSink::new(alloc, 7, &[])?;
     let ended = step_read(alloc, &mut session, LIST, &mut out, &mut err);
@@ -223,10 +223,23 @@ fn a_failed_write_is_told(rt: HostRuntime) -> Result<(), Fail> {
 #[test]
 fn a_short_list_is_one_write(rt: HostRuntime) -> Result<(), Fail> {
     let alloc = rt.alloc();
-    let mut session = Session::new(alloc)?;
-    let mut out = MemSink::new(alloc, 65_536, &[1])?;
-    let mut err = MemSink::new(alloc, 7, &[])?;
-    let ended = step_read(alloc, &mut session, LIST, &mut out, &mut err)?;
-    assert_eq!(rt; ended, Outcome::Done);
+    let lists = [
+        (
+            TextForm::Maple,
+            "[Prod(Z, Prod(Z, Z)), Prod(Prod(Z, Z), Z)]\n",
+        ),
+        (
+            TextForm::Tagged,
+            "[2:Prod(1:Z, 2:Prod(1:Z, 1:Z)), 2:Prod(2:Prod(1:Z, 1:Z), 1:Z)]\n",
+        ),
+    ];
+    for (texts, told) in lists {
+        let mut session = Session::new(alloc, texts)?;
+        let mut out = MemSink::new(alloc, 65_536, &[1])?;
+        let mut err = MemSink::new(alloc, 7, &[])?;
+        let ended = step_read(alloc, &mut session, LIST, &mut out, &mut err)?;
+        assert_eq!(rt; ended, Outcome::Done);
+        assert_eq!(rt; out.bytes(), told.as_bytes(), "{told}");
+    }
     Ok(())
 }

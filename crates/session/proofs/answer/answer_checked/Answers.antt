@@ -26,20 +26,20 @@ name-requires-clause-high c =
 
 pub returns-in-Ok-clause-does : goal.returns-in-Ok-clause-does
 returns-in-Ok-clause-does c =
-    λ symbol setting whole quiet starts numbers.
+    λ texts symbol setting whole quiet starts numbers.
     let checked = c.args.grammar in
     let sym_is = sym c.in-Some.ensures.value in
     let found : symbol_of checked.rules symbol ≡ Some c.in-Some.sym = sym starts ∙ sym_is in
     let P : Counts → Type 0 =
     λ counts. symbol_of counts.checked.rules symbol ≡ Some c.in-Some.sym
-    → IfOk c.answer_counted.result (λ answer. effect_of answer setting ≡ answering setting (text_of c.args.command (grammar counts.checked) symbol counts.size)) in
-    let does = subst P c.in-Ok.ensures.counted (c.answer_counted.ensures.does symbol setting quiet) found in
+    → IfOk c.answer_counted.result (λ answer. effect_of texts answer setting ≡ answering setting (text_of texts c.args.command (grammar counts.checked) symbol counts.size)) in
+    let does = subst P c.in-Ok.ensures.counted (c.answer_counted.ensures.does texts symbol setting quiet) found in
     IfOk-weaker c.answer_counted.result _ _
-    (λ answer is. numbers_fit (text_of c.args.command) (grammar checked) symbol c.args.size setting whole c.in-Some.sym found (c.in-Ok.ensures.fit c.in-Some.sym sym_is) numbers ∙ sym is) does
+    (λ answer is. numbers_fit (text_of texts c.args.command) (grammar checked) symbol c.args.size setting whole c.in-Some.sym found (c.in-Ok.ensures.fit c.in-Some.sym sym_is) numbers ∙ sym is) does
 
 pub returns-in_ok-name-in-Err-TooLarge-clause-does : goal.returns-in_ok-name-in-Err-TooLarge-clause-does
 returns-in_ok-name-in-Err-TooLarge-clause-does c =
-    λ symbol setting whole quiet starts numbers.
+    λ texts symbol setting whole quiet starts numbers.
     let checked = c.args.grammar in
     let place = c.in-Err-TooLarge.place in
     let sym_is = sym c.in-Some.ensures.value in
@@ -47,5 +47,5 @@ returns-in_ok-name-in-Err-TooLarge-clause-does c =
     let named : rule_name checked.rules place.rule ≡ c.in_ok-name-in-Err-TooLarge.name =
     ap (λ (rules : Rules). rule_name rules place.rule) c.requires.rules ∙ sym (c.in_ok-name-in-Err-TooLarge.ensures ∙ c.as_slice.ensures ∙ (rw c.in-Err-TooLarge.field-0-is at c.name.ensures)) in
     rw c.in-Err-TooLarge.field-0-is
-    (number_too_large (text_of c.args.command) (grammar checked) symbol c.args.size setting whole c.in-Some.sym place (sym starts ∙ sym_is) large numbers
+    (number_too_large (text_of texts c.args.command) (grammar checked) symbol c.args.size setting whole c.in-Some.sym place (sym starts ∙ sym_is) large numbers
     ∙ ap (λ (name : List ℕ). refusing setting (refusal.TooLarge name place)) named)

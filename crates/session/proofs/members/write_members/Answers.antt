@@ -1,21 +1,17 @@
-use Rattle.std.proofs.Common.{◌≡◌, ◌++◌, ℕ, List, codes, OnOk, IfErr, refl, sym, ap, subst, ◌∙◌}
+use Rattle.std.proofs.Common.{◌++◌, ℕ, List, codes, subst}
 use Rattle.std.specs.Io.KnownBytes.{Appends}
 use Rattle.std.proofs.lemmas.Result.{on_ok_weaker, IfErr-weaker}
 use Rattle.comb_io.specs.Parts.{AppendsBefore, AppendsPart}
 use Rattle.comb_io.proofs.Parts.{AppendsBefore-append, AppendsBefore-last, AppendsBefore-part, AppendsPart-append}
-use Rattle.struct_model.specs.Structure.{parts_of}
-use Rattle.struct_model.specs.Text.{maple_rest}
-use Rattle.size_counts.specs.CountedView.{Counts}
-use Rattle.session.specs.Effect.{structures_text}
-use Rattle.session.specs.Ending.{unwritten_by, Blames, HasStepCause}
+use Rattle.session.specs.Ending.{unwritten_by, HasStepCause}
 use Rattle.session.proofs.MakesLemmas.{cause_passed, part_passed, part_so_far}
 use Rattle.session.proofs.MemberTexts.{line_is, counts_kept}
 use Rattle.session.proofs.members.write_members.Goals as goal
 
 pub returns-in_err-text-2-clause-part : goal.returns-in_err-text-2-clause-part
 returns-in_err-text-2-clause-part g c =
-    let whole = counts_kept c.args.members.now.counts c.push_member.new.members.counts c.push_member.new.members.rest c.push_member.new.text c.push_member.ensures.counts
-    (line_is c.args.members.now.counts.checked.rules c.args.members.now.rest c.push_member.new.members.rest c.in_ok-text.text c.push_member.new.text c.in_ok-push_member.field-0
+    let whole = counts_kept c.args.texts c.args.members.now.counts c.push_member.new.members.counts c.push_member.new.members.rest c.push_member.new.text c.push_member.ensures.counts
+    (line_is c.args.texts c.args.members.now.counts.checked.rules c.args.members.now.rest c.push_member.new.members.rest c.in_ok-text.text c.push_member.new.text c.in_ok-push_member.field-0
     c.in_ok-push_member.ensures.puts c.in_ok-text.ensures) in
     let unwritten = unwritten_by c.in_err-text-2.field-0.0 in
     part_passed c.from_residual-in_err-text-2.result c.in_err-text-2.field-0.0 (g.O.Sink.written c.args.out.now) (g.O.Sink.written c.write_later.new.out) _ c.from_residual-in_err-text-2.ensures.1
@@ -28,8 +24,8 @@ returns-in_err-text-2-clause-cause g c =
 
 pub returns-in_err-extend_from_slice-clause-part : goal.returns-in_err-extend_from_slice-clause-part
 returns-in_err-extend_from_slice-clause-part g c =
-    let whole = counts_kept c.args.members.now.counts c.push_member.new.members.counts c.push_member.new.members.rest c.push_member.new.text c.push_member.ensures.counts
-    (line_is c.args.members.now.counts.checked.rules c.args.members.now.rest c.push_member.new.members.rest c.in_ok-text.text c.push_member.new.text c.in_ok-push_member.field-0
+    let whole = counts_kept c.args.texts c.args.members.now.counts c.push_member.new.members.counts c.push_member.new.members.rest c.push_member.new.text c.push_member.ensures.counts
+    (line_is c.args.texts c.args.members.now.counts.checked.rules c.args.members.now.rest c.push_member.new.members.rest c.in_ok-text.text c.push_member.new.text c.in_ok-push_member.field-0
     c.in_ok-push_member.ensures.puts c.in_ok-text.ensures) in
     let old = g.O.Sink.written c.args.out.now in
     let mid = g.O.Sink.written c.write_later.new.out in
@@ -43,8 +39,8 @@ returns-in_err-extend_from_slice-clause-cause g c =
 
 pub returns-clause-whole : goal.returns-clause-whole
 returns-clause-whole g c =
-    let whole = counts_kept c.args.members.now.counts c.push_member.new.members.counts c.push_member.new.members.rest c.push_member.new.text c.push_member.ensures.counts
-    (line_is c.args.members.now.counts.checked.rules c.args.members.now.rest c.push_member.new.members.rest c.in_ok-text.text c.push_member.new.text c.in_ok-push_member.field-0
+    let whole = counts_kept c.args.texts c.args.members.now.counts c.push_member.new.members.counts c.push_member.new.members.rest c.push_member.new.text c.push_member.ensures.counts
+    (line_is c.args.texts c.args.members.now.counts.checked.rules c.args.members.now.rest c.push_member.new.members.rest c.in_ok-text.text c.push_member.new.text c.in_ok-push_member.field-0
     c.in_ok-push_member.ensures.puts c.in_ok-text.ensures) in
     let old = g.O.Sink.written c.args.out.now in
     let mid = g.O.Sink.written c.write_later.new.out in
@@ -54,8 +50,8 @@ returns-clause-whole g c =
 
 pub returns-clause-part : goal.returns-clause-part
 returns-clause-part g c =
-    let whole = counts_kept c.args.members.now.counts c.push_member.new.members.counts c.push_member.new.members.rest c.push_member.new.text c.push_member.ensures.counts
-    (line_is c.args.members.now.counts.checked.rules c.args.members.now.rest c.push_member.new.members.rest c.in_ok-text.text c.push_member.new.text c.in_ok-push_member.field-0
+    let whole = counts_kept c.args.texts c.args.members.now.counts c.push_member.new.members.counts c.push_member.new.members.rest c.push_member.new.text c.push_member.ensures.counts
+    (line_is c.args.texts c.args.members.now.counts.checked.rules c.args.members.now.rest c.push_member.new.members.rest c.in_ok-text.text c.push_member.new.text c.in_ok-push_member.field-0
     c.in_ok-push_member.ensures.puts c.in_ok-text.ensures) in
     let old = g.O.Sink.written c.args.out.now in
     let mid = g.O.Sink.written c.write_later.new.out in

@@ -1,6 +1,5 @@
-use Rattle.std.proofs.Common.{refl, sym, subst}
-use Rattle.session.specs.declared.texts.TextForm.{TextForm}
-use Rattle.session.specs.Effect.{Setting, FormDoes}
+use Rattle.std.proofs.Common.{refl, sym}
+use Rattle.session.specs.Effect.{Setting}
 use Rattle.session.specs.Commands.{effect_of}
 use Rattle.session.proofs.MakesLemmas.{Makes-same}
 use Rattle.session.proofs.session.run.Goals as goal
@@ -11,4 +10,4 @@ returns-clause-makes g c =
     let statement = c.args.statement.now in
     let setting : Setting = record { is_quiet = statement.quiet; line = c.args.line; state = state } in
     Makes-same (g.O.Sink.written c.args.out.now) (g.O.Sink.written c.write_answer.new.out) (g.E.Sink.written c.args.err.now) (g.E.Sink.written c.write_answer.new.err)
-    (effect_of c.in_ok-answer.answer setting) whole c.write_answer.result (sym (c.in_ok-answer.ensures.does setting whole refl (subst (λ (texts : TextForm). FormDoes statement.form texts setting whole) c.requires.texts does))) (c.write_answer.ensures.makes state)
+    (effect_of c.args.texts c.in_ok-answer.answer setting) whole c.write_answer.result (sym (c.in_ok-answer.ensures.does c.args.texts setting whole refl does)) (c.write_answer.ensures.makes state)

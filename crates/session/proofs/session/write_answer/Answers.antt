@@ -13,7 +13,7 @@ returns-in-Text-clause-makes g c =
     λ state.
     let err = g.E.Sink.written c.args.err.now in
     let setting : Setting = record { is_quiet = c.args.quiet; line = c.args.line; state = state } in
-    let Q : Answer → Type 0 = λ answer. Makes (g.O.Sink.written c.args.out.now) (g.O.Sink.written c.write_text.new.out) err err (effect_of answer setting) c.write_text.result in
+    let Q : Answer → Type 0 = λ answer. Makes (g.O.Sink.written c.args.out.now) (g.O.Sink.written c.write_text.new.out) err err (effect_of c.args.texts answer setting) c.write_text.result in
     subst Q (sym c.in-Text.is) (c.write_text.ensures.makes c.args.line state err)
 
 pub returns-in-Members-clause-cause : goal.returns-in-Members-clause-cause
@@ -24,7 +24,7 @@ returns-in-Members-clause-makes g c =
     λ state.
     let err = g.E.Sink.written c.args.err.now in
     let setting : Setting = record { is_quiet = c.args.quiet; line = c.args.line; state = state } in
-    let Q : Answer → Type 0 = λ answer. Makes (g.O.Sink.written c.args.out.now) (g.O.Sink.written c.write_listing.new.out) err err (effect_of answer setting) c.write_listing.result in
+    let Q : Answer → Type 0 = λ answer. Makes (g.O.Sink.written c.args.out.now) (g.O.Sink.written c.write_listing.new.out) err err (effect_of c.args.texts answer setting) c.write_listing.result in
     subst Q (sym c.in-Members.is) (c.write_listing.ensures.makes c.args.line state err)
 
 pub returns-in-Refused-clause-cause : goal.returns-in-Refused-clause-cause
@@ -35,5 +35,5 @@ returns-in-Refused-clause-makes g c =
     λ state.
     let out = g.O.Sink.written c.args.out.now in
     let setting : Setting = record { is_quiet = c.args.quiet; line = c.args.line; state = state } in
-    let Q : Answer → Type 0 = λ answer. Makes out out (g.E.Sink.written c.args.err.now) (g.E.Sink.written c.write_refusal.new.err) (effect_of answer setting) c.write_refusal.result in
+    let Q : Answer → Type 0 = λ answer. Makes out out (g.E.Sink.written c.args.err.now) (g.E.Sink.written c.write_refusal.new.err) (effect_of c.args.texts answer setting) c.write_refusal.result in
     subst Q (sym c.in-Refused.is) (c.write_refusal.ensures.makes setting out refl)

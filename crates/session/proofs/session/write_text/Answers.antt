@@ -1,4 +1,4 @@
-use Rattle.std.proofs.Common.{◌≡◌, true, false, refl}
+use Rattle.std.proofs.Common.{refl}
 use Rattle.session.specs.Effect.{Setting, answering}
 use Rattle.session.proofs.MakesLemmas.{Makes-wrote, Makes-wrote-part, cause_passed, makes_passed}
 use Rattle.session.proofs.session.write_text.Goals as goal
