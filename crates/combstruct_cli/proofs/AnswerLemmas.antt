@@ -2,15 +2,17 @@
 use Rattle.std.specs.Io.KnownBytes.{Consumes}
 use Rattle.std.proofs.lemmas.Bool.Decides.{nat_tests}
 use Rattle.std.proofs.lemmas.List.{take_all, take-append-le, append-nil}
-use Rattle.std.proofs.Common.{◌≡◌, ◌≢◌, ◌⊎◌, inl, inr, ◌<◌, ◌≤◌, ◌+◌, Bool, true, false, [], ◌∷◌, take, subst, leb, arith, ℕ, List, ◌++◌, length, Option, Some, None, refl, sym, ap, ◌∙◌}
+use Rattle.std.proofs.Common.{◌≡◌, ◌⊎◌, inl, inr, ◌<◌, ◌≤◌, ◌+◌, Bool, true, false, [], take, subst, leb, arith, ℕ, List, ◌++◌, length, Option, Some, None, refl, sym, ap, ◌∙◌}
 use Rattle.spec_reader.specs.declared.refusal.Which.TheVariants as which
 use Rattle.spec_reader.specs.declared.refusal.ReadRefused.TheVariants as read
 use Rattle.session.specs.declared.refusal.Refusal.TheVariants as refusal
+use Rattle.struct_text.specs.declared.form.TextForm.{TextForm}
 use Rattle.combstruct_cli.specs.declared.run.Status.TheVariants as status
 use Rattle.combstruct_cli.specs.declared.run.Outcome.TheVariants.{Done, Refused}
 use Rattle.combstruct_cli.specs.Outcome.{outcome_of}
 use Rattle.combstruct_cli.specs.Input.{IsSpent, TookOver}
-use Rattle.combstruct_cli.specs.Answer.{telling, nothing, place_in, refusing_long, usage_answer, Answer, status_of, AnswersScript, IsAnswer}
+use Rattle.combstruct_cli.specs.Answer.{telling, nothing, place_in, refusing_long, usage_answer, Answer, status_of, AnswersForm, AnswersScript, IsAnswer}
+use Rattle.combstruct_cli.specs.Words.{words_form}
 
 -- a script is too long or not
 pub refusing_long-short : (script : List ℕ) → length script ≤ 16777216 → nothing ≡ refusing_long script
@@ -46,15 +48,14 @@ taken_whole most given script left left' told taken at_end bound =
     by None gone at_end = absurd gone
     by (Some rest) split at_end = taken_within most given script rest split (λ short. some_injective (at_end short)) bound
 
--- an answer to words is the usage line
-pub IsAnswer-words : {W : Type 0} (words : List W) (given : List ℕ) (answer : Answer) → words ≢ [] → IsAnswer words given answer → answer ≡ usage_answer
-IsAnswer-words [] given answer some is = absurd (some refl)
-IsAnswer-words (word ∷ words) given answer some is = is
+-- an answer to words out of form is the usage line
+pub IsAnswer-words : (words : List (List ℕ)) (given : List ℕ) (answer : Answer) → words_form words ≡ None → IsAnswer words given answer → answer ≡ usage_answer
+IsAnswer-words words given answer none is = subst (λ (form : Option TextForm). AnswersForm form given answer) none is
 
--- and one to no words is what the script does
-pub IsAnswer-script : {W : Type 0} (words : List W) (given : List ℕ) (answer : Answer) → words ≡ [] → IsAnswer words given answer → AnswersScript given answer
-IsAnswer-script [] given answer none is = is
-IsAnswer-script (word ∷ words) given answer none is = absurd (cc)
+-- and one to words in form is what the script does
+pub IsAnswer-script : (words : List (List ℕ)) (texts : TextForm) (given : List ℕ) (answer : Answer) → words_form words ≡ Some texts → IsAnswer words given answer
+    → AnswersScript texts given answer
+IsAnswer-script words texts given answer some is = subst (λ (form : Option TextForm). AnswersForm form given answer) some is
 
 pub status-done : (b : Bool) → Done ≡ outcome_of b → status_of b ≡ status.Well
 status-done true e = absurd (cc)

@@ -1,9 +1,10 @@
 -- Laws of parts of a script that are run one after the other, and of the counts of faults at their end.
-use Rattle.std.proofs.Common.{◌≡◌, ◌≢◌, ◌⊎◌, inl, inr, ◌≤◌, [], ◌∷◌, length, arith, ℕ, Bool, true, false, List, ◌||◌, Option, Result, Ok, Err, refl, sym, ap, subst, ◌∙◌}
+use Rattle.std.proofs.Common.{◌≡◌, ◌⊎◌, inl, inr, ◌≤◌, arith, ℕ, Bool, true, false, List, ◌||◌, Option, Result, Ok, Err, refl, sym, subst, ◌∙◌}
 use Rattle.std.specs.Io.KnownBytes.{Appends}
 use Rattle.comb_io.specs.Parts.{AppendsProperPrefix}
-use Rattle.comb_io.specs.Writes.{Write, Wrote, WrotePart}
+use Rattle.comb_io.specs.Writes.{Wrote, WrotePart}
 use Rattle.comb_io.proofs.Written.{Wrote-nil, Wrote-append, Wrote-to_err, WrotePart-append, WrotePart-after, WrotePart-to_err, WrotePart-fewer}
+use Rattle.struct_text.specs.declared.form.TextForm.{TextForm}
 use Rattle.combstruct_cli.specs.declared.fault.Fault.{Fault}
 use Rattle.combstruct_cli.specs.declared.fault.Fault.TheVariants as fault
 use Rattle.combstruct_cli.specs.declared.run.Outcome.{Outcome}
@@ -13,7 +14,7 @@ use Rattle.combstruct_cli.specs.declared.run.Status.TheVariants as status
 use Rattle.session.specs.declared.refusal.Refusal.{Refusal}
 use Rattle.session.specs.Refusals.{refusal_line}
 use Rattle.combstruct_cli.specs.Answer.{Part, Answer, AnswersScript, telling, followed_by}
-use Rattle.combstruct_cli.specs.Outcome.{outcome_of, either, unwritten_by, fault_status, end_status, Makes, Ends, Gives, NoneRises, Blames, HasRunCause, HasStatusCause, DidNotRise}
+use Rattle.combstruct_cli.specs.Outcome.{outcome_of, either, unwritten_by, end_status, Makes, Ends, Gives, NoneRises, Blames, HasRunCause, HasStatusCause, DidNotRise}
 use Rattle.combstruct_cli.proofs.AnswerLemmas.{status-done, status-refused}
 
 at_most_one : (whose : Fault) → unwritten_by whose ≤ 1
@@ -54,7 +55,7 @@ module _ (out out' err err' : Option (List ℕ)) where
   pub Makes-same : (one other : Part) (result : Result Outcome Fault) → one ≡ other → Makes out out' err err' one result → Makes out out' err err' other result
   Makes-same one other result same made = let P : Part → Type 0 = λ e. Makes out out' err err' e result in subst P same made
 
-module _ (out out' err err' : Option (List ℕ)) (given : List ℕ) (answer : Answer) (runs : AnswersScript given answer) where
+module _ (out out' err err' : Option (List ℕ)) (texts : TextForm) (given : List ℕ) (answer : Answer) (runs : AnswersScript texts given answer) where
   wrote-answer : Wrote out out' err err' runs.whole.writes → Wrote out out' err err' answer.writes
   wrote-answer made = subst (Wrote out out' err err') (sym runs.writes) made
 
@@ -108,12 +109,3 @@ module _ (input input' out out' err err' : ℕ) where
   complete _ _ _ _ answer status.Output (inl cause) ends _ unfailed _ = absurd (unfailed cause.1.rose)
   complete _ _ _ _ answer status.Output (inr cause) ends _ _ unfailed = absurd (unfailed cause.2.rose)
   complete _ _ _ _ answer status.Memory cause ends _ _ _ = inr refl
-
--- a vector without items
-pub no_items : {X : Type 0} (xs : List X) → length xs ≡ 0 → xs ≡ []
-no_items [] none = refl
-no_items (x ∷ xs) none = absurd (omega arith)
-
-pub some_items : {X : Type 0} (xs : List X) → length xs ≢ 0 → xs ≢ []
-some_items [] some = λ _. some refl
-some_items (x ∷ xs) some = λ e. cc

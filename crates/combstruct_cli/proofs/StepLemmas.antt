@@ -1,8 +1,8 @@
 -- Laws of a run that goes on from piece to piece.
-use Rattle.std.proofs.Common.{◌≡◌, ℕ, List, [], Option, Result, Ok, Err, refl, sym, ap, ◌∙◌, subst}
+use Rattle.std.proofs.Common.{◌≡◌, ℕ, List, [], Option, Ok, Err, refl, sym, ap, ◌∙◌, subst}
 use Rattle.comb_io.specs.Writes.{Wrote}
 use Rattle.comb_io.proofs.Written.{Wrote-nil}
-use Rattle.session.specs.declared.texts.TextForm.{TextForm}
+use Rattle.struct_text.specs.declared.form.TextForm.{TextForm}
 use Rattle.session.specs.Effect.{State}
 use Rattle.combstruct_cli.specs.declared.fault.Fault.{Fault}
 use Rattle.combstruct_cli.specs.declared.run.Outcome.{Outcome}

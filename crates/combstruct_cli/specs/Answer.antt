@@ -1,5 +1,5 @@
 -- The answer to words and a script: what is written to the two outputs, and the status.
-use Rattle.std.specs.Prelude.{◌≡◌, ℕ, ◌+◌, Bool, true, false, ◌||◌, nat_le, nat_lt, is_some, List, [], ◌∷◌, ◌++◌, length, take, slice_range, codes, Option, Some, Result, Ok, Err, if◌then◌else◌}
+use Rattle.std.specs.Prelude.{◌≡◌, ℕ, ◌+◌, Bool, true, false, ◌||◌, nat_le, nat_lt, is_some, List, [], ◌∷◌, ◌++◌, length, take, slice_range, codes, Option, Some, None, Result, Ok, Err, if◌then◌else◌}
 use Rattle.std.specs.List.{filter}
 use Rattle.spec_syntax.specs.declared.statement.Statement.{Statement}
 use Rattle.spec_reader.specs.declared.place.Place.{Place}
@@ -10,14 +10,14 @@ use Rattle.spec_reader.specs.Cutting.{pieces}
 use Rattle.spec_reader.specs.Places.{place_behind}
 use Rattle.spec_reader.specs.Reading.{Answers}
 use Rattle.comb_io.specs.Writes.{Write, to_err}
-use Rattle.session.specs.declared.texts.TextForm.{TextForm}
-use Rattle.session.specs.declared.texts.TextForm.TheVariants.{Maple}
+use Rattle.struct_text.specs.declared.form.TextForm.{TextForm}
 use Rattle.session.specs.declared.refusal.Refusal.{Refusal}
 use Rattle.session.specs.declared.refusal.Refusal.TheVariants as refusal
 use Rattle.session.specs.Refusals.{refusal_line}
-use Rattle.session.specs.Effect.{State, first_state, Effect, Setting, refusing, StatementDoes}
+use Rattle.session.specs.Effect.{State, first_state, Effect, refusing, StatementDoes}
 use Rattle.combstruct_cli.specs.declared.run.Status.{Status}
 use Rattle.combstruct_cli.specs.declared.run.Status.TheVariants as status
+use Rattle.combstruct_cli.specs.Words.{words_form}
 
 -- ---- parts of a script
 
@@ -81,9 +81,10 @@ RunsPieces script (piece ∷ later) texts state whole =
 abbrev pub is_early : ℕ × ℕ → Bool
 is_early piece = nat_le piece.1 most_bytes
 
--- what a script does: its pieces that end early enough. Of one with too many bytes one byte more than the most is looked at
-abbrev pub Runs : List ℕ → Part → Type 0
-Runs script whole = RunsPieces (take (most_bytes + 1) script) (filter is_early (pieces (take (most_bytes + 1) script))) Maple first_state whole
+-- what a script does with texts in this form: its pieces that end early enough. Of one with too many bytes one byte more than
+-- the most is looked at
+abbrev pub Runs : TextForm → List ℕ → Part → Type 0
+Runs texts script whole = RunsPieces (take (most_bytes + 1) script) (filter is_early (pieces (take (most_bytes + 1) script))) texts first_state whole
 
 -- ---- answers
 
@@ -103,14 +104,18 @@ status_of false = status.Well
 abbrev pub usage_answer : Answer
 usage_answer = record { writes = to_err usage; status = status.Words }
 
--- what is answered to a script without words: what it does
-pub record AnswersScript (script : List ℕ) (answer : Answer) : Type 0 where
+-- what is answered to a script whose texts are in this form: what it does
+pub record AnswersScript (texts : TextForm) (script : List ℕ) (answer : Answer) : Type 0 where
   pub whole : Part
-  pub runs : Runs script whole
+  pub runs : Runs texts script whole
   pub writes : answer.writes ≡ whole.writes
   pub status : answer.status ≡ status_of whole.is_refused
 
--- the answer to words and a script. No word is in form yet
-abbrev pub IsAnswer : {W : Type 0} → List W → List ℕ → Answer → Type 0
-IsAnswer [] script answer = AnswersScript script answer
-IsAnswer (word ∷ words) script answer = answer ≡ usage_answer
+-- the answer to a script where the words ask for this form, or are out of form
+abbrev pub AnswersForm : Option TextForm → List ℕ → Answer → Type 0
+AnswersForm None script answer = answer ≡ usage_answer
+AnswersForm (Some texts) script answer = AnswersScript texts script answer
+
+-- the answer to words and a script
+abbrev pub IsAnswer : List (List ℕ) → List ℕ → Answer → Type 0
+IsAnswer words script answer = AnswersForm (words_form words) script answer

@@ -1,4 +1,5 @@
 pub mod Input
+pub mod Words
 pub mod Outcome
 pub mod Answer
 pub mod Steps

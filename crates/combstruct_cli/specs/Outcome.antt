@@ -1,5 +1,5 @@
 -- How a run and its parts end: what was written by then, and whose count of faults rose.
-use Rattle.std.specs.Prelude.{◌≡◌, ℕ, ◌≤◌, ◌⊎◌, Bool, true, false, List, Option, Result, Ok, Err}
+use Rattle.std.specs.Prelude.{◌≡◌, ℕ, ◌⊎◌, Bool, true, false, List, Option, Result, Ok, Err}
 use Rattle.comb_io.specs.Faults.{Rose, Rises}
 use Rattle.comb_io.specs.Writes.{Wrote, WrotePart, WrotePrefix, WroteProperPrefix}
 use Rattle.session.specs.declared.fault.SessionFault.{SessionFault}

@@ -3,7 +3,7 @@ use Rattle.std.specs.Prelude.{◌≡◌, ℕ, List, [], Option, Some, None, Resu
 use Rattle.std.specs.List.{filter}
 use Rattle.spec_reader.specs.Cutting.{pieces_behind}
 use Rattle.comb_io.specs.Writes.{Wrote}
-use Rattle.session.specs.declared.texts.TextForm.{TextForm}
+use Rattle.struct_text.specs.declared.form.TextForm.{TextForm}
 use Rattle.session.specs.Effect.{State}
 use Rattle.combstruct_cli.specs.declared.fault.Fault.{Fault}
 use Rattle.combstruct_cli.specs.declared.run.Outcome.{Outcome}

@@ -12,6 +12,7 @@ ghost use Rattle.combstruct_cli.specs.Outcome.{DidNotRise, Ends, Gives, HasStatu
 mod fault;
 mod input;
 mod run;
+mod words;
 
 use comb_io::{Sink, StdSink, StdSource, SureShelf};
 use run::{Status, refuse_words, run};

@@ -1,5 +1,5 @@
 //! A run: words and a script go in, and the answer goes out.
-ghost use Rattle.std.specs.Prelude.{Result, Ok, Err, None, ◌≡◌, ◌⊎◌, ◌≢◌, ℕ, ◌+◌, ◌≤◌, ◌<◌, [], List, Option, Some, length, take, IsTrue, IfOk, IfSome, OnOk};
+ghost use Rattle.std.specs.Prelude.{Result, Ok, Err, None, ◌≡◌, ◌⊎◌, ◌≢◌, ℕ, ◌+◌, ◌≤◌, ◌<◌, List, Option, Some, length, map, take, string_bytes, IsTrue, IfOk, IfSome, OnOk};
 ghost use Rattle.std.specs.List.{filter};
 ghost use Rattle.comb_io.specs.Faults.{Rose};
 ghost use Rattle.spec_syntax.specs.declared.statement.Statement.{Statement};
@@ -7,22 +7,24 @@ ghost use Rattle.spec_reader.specs.declared.refusal.ReadRefused.{ReadRefused};
 ghost use Rattle.spec_reader.specs.Cutting.{begins_piece, pieces};
 ghost use Rattle.spec_reader.specs.Reading.{Answers};
 ghost use Rattle.spec_reader.specs.Laws.{FormIsInForce, FormKeeps, FormIsSmall, FormHasSequences};
-ghost use Rattle.session.specs.declared.texts.TextForm.TheVariants.{Maple};
 ghost use Rattle.session.specs.Refusals.{IsTold};
 ghost use Rattle.session.specs.Effect.{Effect, first_state, StatementDoes};
 ghost use Rattle.combstruct_cli.specs.Answer.{Part, Answer, part_of, telling, place_in, refusing_long, PieceDoes, RunsPieces, is_early, Runs, IsAnswer, most_bytes, usage_answer};
 ghost use Rattle.combstruct_cli.specs.Outcome.{HasRunCause, HasStatusCause, end_status, ran_of, Makes, Ends, Gives, DidNotRise, either};
 ghost use Rattle.combstruct_cli.specs.Steps.{early_behind, RunsNext};
 ghost use Rattle.combstruct_cli.specs.Input.{IsSpent, TookOver, TookWithin};
+ghost use Rattle.combstruct_cli.specs.Words.{words_form};
 ghost use Rattle.combstruct_cli.specs.Laws.{SomeAnswer, OneAnswer};
 
 use crate::fault::Fault;
 use crate::input::{MOST_BYTES, read_script};
+use crate::words::form_of;
 use comb_io::{Shelf, Sink, SinkFault, Source, write_all};
 use session::{Refusal, Session, refusal_line};
 use spec_reader::{Place, ReadRefused, Which, behind, first_piece, read_statement};
 use spec_syntax::{Bytes, Statement};
 use std::alloc::Global;
+use struct_text::TextForm;
 
 #[cfg(test)]
 mod tests;
@@ -259,20 +261,22 @@ fn refuse_long<E: Sink>(alloc: Global, script: &[u8], err: &mut E) -> Result<Out
     refuse(alloc, place.line, &refusal, err)
 }
 
-/// Runs the pieces of a script that end early enough, of which one byte more than a script may have is enough.
+/// Runs the pieces of a script that end early enough, with texts in this form. Of the script one byte more than it may have is
+/// enough.
 fn run_script<O: Sink, E: Sink>(
     alloc: Global,
+    texts: TextForm,
     script: &[u8],
     out: &mut O,
     err: &mut E,
 ) -> Result<Outcome, Fault>
     requires { length script.now ≤ MOST_BYTES + 1 }
     ensures cause { (input : ℕ) → HasRunCause input input (O.faults out.old) (O.faults out.new) (E.faults err.old) (E.faults err.new) result }
-    ensures makes { (whole : Part) → RunsPieces script.now (filter is_early (pieces script.now)) Maple first_state whole
+    ensures makes { (whole : Part) → RunsPieces script.now (filter is_early (pieces script.now)) texts first_state whole
         → Makes (O.written out.old) (O.written out.new) (E.written err.old) (E.written err.new) whole result }
     ensures done { result ≡ Ok Outcome.Done → length script.now ≤ MOST_BYTES }
 {
-    let mut session = Session::new(alloc)?;
+    let mut session = Session::new(alloc, texts)?;
     let mut outcome = Outcome::Done;
     let mut at = 0;
     let mut place = START;
@@ -293,15 +297,16 @@ fn run_script<O: Sink, E: Sink>(
     }
 }
 
-/// Takes the script that `input` gives, and runs it.
+/// Takes the script that `input` gives, and runs it, with texts in this form.
 fn run_input<S: Source, O: Sink, E: Sink>(
     alloc: Global,
+    texts: TextForm,
     input: &mut S,
     out: &mut O,
     err: &mut E,
 ) -> Result<Outcome, Fault>
     ensures cause { HasRunCause (S.faults input.old) (S.faults input.new) (O.faults out.old) (O.faults out.new) (E.faults err.old) (E.faults err.new) result }
-    ensures makes { (given : List ℕ) → S.left input.old ≡ Some given → (whole : Part) → Runs given whole
+    ensures makes { (given : List ℕ) → S.left input.old ≡ Some given → (whole : Part) → Runs texts given whole
         → Makes (O.written out.old) (O.written out.new) (E.written err.old) (E.written err.new) whole result }
     ensures untouched { result ≡ Err Fault.Input → (out.new ≡ out.old) × (err.new ≡ err.old) }
     ensures front { TookWithin (most_bytes + 1) (S.left input.old) (S.left input.new) }
@@ -310,7 +315,7 @@ fn run_input<S: Source, O: Sink, E: Sink>(
         (IsSpent (S.left input.old) (S.left input.new) ⊎ TookOver most_bytes (S.left input.old) (S.left input.new)) }
 {
     match read_script(alloc, input) {
-        Ok(script) => run_script(alloc, &script, out, err),
+        Ok(script) => run_script(alloc, texts, &script, out, err),
         Err(fault) => Err(fault),
     }
 }
@@ -330,8 +335,8 @@ fn status_of(ended: Result<Outcome, Fault>) -> Status
 
 /// To these words and each script there is an answer, and only one.
 pub fn each_script_has_one_answer(_words: &Vec<String>)
-    ensures some { SomeAnswer _words.now.items }
-    ensures one { OneAnswer _words.now.items }
+    ensures some { SomeAnswer (map string_bytes _words.now.items) }
+    ensures one { OneAnswer (map string_bytes _words.now.items) }
 {}
 
 /// Writes the usage line, which answers words that aren't in form.
@@ -351,9 +356,9 @@ pub(crate) fn refuse_words<E: Sink>(err: &mut E) -> Status
     }
 }
 
-/// Runs the script that `input` gives, and writes its answer to `out` and `err`.
+/// Runs the script that `input` gives, and writes its answer to `out` and `err`, with texts in the form that `words` ask for.
 ///
-/// No word is in form yet, so any word gives the usage line. No file is fetched from the shelf yet.
+/// Words out of form give the usage line. No file is fetched from the shelf yet.
 pub fn run<S: Source, F: Shelf, O: Sink, E: Sink>(
     alloc: Global,
     words: &Vec<String>,
@@ -362,32 +367,32 @@ pub fn run<S: Source, F: Shelf, O: Sink, E: Sink>(
     out: &mut O,
     err: &mut E,
 ) -> Status
-    ensures answer { (given : List ℕ) → S.left input.old ≡ Some given → (answer : Answer) → IsAnswer words.now.items given answer
+    ensures answer { (given : List ℕ) → S.left input.old ≡ Some given → (answer : Answer) → IsAnswer (map string_bytes words.now.items) given answer
         → Ends (O.written out.old) (O.written out.new) (E.written err.old) (E.written err.new) answer result }
     ensures complete { DidNotRise (S.faults input.old) (S.faults input.new) → DidNotRise (O.faults out.old) (O.faults out.new) → DidNotRise (E.faults err.old) (E.faults err.new)
-        → (given : List ℕ) → S.left input.old ≡ Some given → (answer : Answer) → IsAnswer words.now.items given answer
+        → (given : List ℕ) → S.left input.old ≡ Some given → (answer : Answer) → IsAnswer (map string_bytes words.now.items) given answer
         → Gives (O.written out.old) (O.written out.new) (E.written err.old) (E.written err.new) answer result ⊎ (result ≡ Status.Memory) }
-    ensures words_answer { words.now.items ≢ []
+    ensures words_answer { words_form (map string_bytes words.now.items) ≡ None
         → Ends (O.written out.old) (O.written out.new) (E.written err.old) (E.written err.new) usage_answer result }
-    ensures words_complete { words.now.items ≢ [] → DidNotRise (E.faults err.old) (E.faults err.new)
+    ensures words_complete { words_form (map string_bytes words.now.items) ≡ None → DidNotRise (E.faults err.old) (E.faults err.new)
         → Gives (O.written out.old) (O.written out.new) (E.written err.old) (E.written err.new) usage_answer result ⊎ (result ≡ Status.Memory) }
     ensures untouched { result ≡ Status.Input → (out.new ≡ out.old) × (err.new ≡ err.old) }
-    ensures unread { words.now.items ≢ [] → input.new ≡ input.old }
-    ensures unwritten { words.now.items ≢ [] → out.new ≡ out.old }
+    ensures unread { words_form (map string_bytes words.now.items) ≡ None → input.new ≡ input.old }
+    ensures unwritten { words_form (map string_bytes words.now.items) ≡ None → out.new ≡ out.old }
     ensures shelf { _shelf.new ≡ _shelf.old }
     ensures front { TookWithin (most_bytes + 1) (S.left input.old) (S.left input.new) }
     ensures at_end { result ≡ Status.Well → IsSpent (S.left input.old) (S.left input.new) }
     ensures at_end_or_over { result ≡ Status.SomeRefused
         → IsSpent (S.left input.old) (S.left input.new) ⊎ TookOver most_bytes (S.left input.old) (S.left input.new) }
-    ensures words { result ≡ Status.Words → words.now.items ≢ [] }
-    ensures with_words { words.now.items ≢ [] → (result ≡ Status.Words) ⊎ (result ≡ Status.Output) ⊎ (result ≡ Status.Memory) }
+    ensures words { result ≡ Status.Words → words_form (map string_bytes words.now.items) ≡ None }
+    ensures with_words { words_form (map string_bytes words.now.items) ≡ None → (result ≡ Status.Words) ⊎ (result ≡ Status.Output) ⊎ (result ≡ Status.Memory) }
     ensures input { result ≡ Status.Input → Rose (S.faults input.old) (S.faults input.new) }
     ensures output { result ≡ Status.Output → Rose (O.faults out.old) (O.faults out.new) ⊎ Rose (E.faults err.old) (E.faults err.new) }
     ensures later { (S.faults input.old ≤ S.faults input.new) × (O.faults out.old ≤ O.faults out.new) × (E.faults err.old ≤ E.faults err.new) }
     ensures faults { HasStatusCause (S.faults input.old) (S.faults input.new) (O.faults out.old) (O.faults out.new) (E.faults err.old) (E.faults err.new) result }
 {
-    if !words.is_empty() {
+    let Some(texts) = form_of(words) else {
         return refuse_words(err);
-    }
-    status_of(run_input(alloc, input, out, err))
+    };
+    status_of(run_input(alloc, texts, input, out, err))
 }

@@ -57,6 +57,15 @@ const MANY: Case = Case {
     status: Status::SomeRefused,
 };
 
+/// These words, as a run is given them.
+fn words_of(alloc: Global, given: &[&str]) -> Result<Vec<String>, Fail> {
+    let mut words = Vec::new(alloc);
+    for word in given {
+        words.push(String::from_str(alloc, word)?)?;
+    }
+    Ok(words)
+}
+
 /// Runs a script without words.
 fn outcome_of<S: Source, O: Sink, E: Sink>(
     alloc: Global,
@@ -68,19 +77,25 @@ fn outcome_of<S: Source, O: Sink, E: Sink>(
     run(alloc, &words, input, &mut SureShelf::new(&[]), out, err)
 }
 
-/// Sees that a script has its answer, however many bytes a read gives.
-fn sees(rt: &impl Abort, alloc: Global, case: Case) -> Result<(), Fail> {
+/// Sees that these words and a script have their answer, however many bytes a read gives.
+fn sees_to(rt: &impl Abort, alloc: Global, words: &Vec<String>, case: Case) -> Result<(), Fail> {
     for most in SIZES {
         assert!(rt; most > 0);
         let mut input = MemSource::new(alloc, case.script, most, &[])?;
         let mut out = SureSink::new(alloc);
         let mut err = SureSink::new(alloc);
-        let status = outcome_of(alloc, &mut input, &mut out, &mut err);
+        let mut shelf = SureShelf::new(&[]);
+        let status = run(alloc, words, &mut input, &mut shelf, &mut out, &mut err);
         assert_eq!(rt; status, case.status);
         assert_eq!(rt; out.bytes(), case.out);
         assert_eq!(rt; err.bytes(), case.err);
     }
     Ok(())
+}
+
+/// Sees that a script without words has its answer.
+fn sees(rt: &impl Abort, alloc: Global, case: Case) -> Result<(), Fail> {
+    sees_to(rt, alloc, &Vec::new(alloc), case)
 }
 
 #[test]
@@ -309,18 +324,53 @@ const LEFT: &[u8] =
     b"[Prod(Prod(Prod(Prod(Prod(Prod(Prod(Prod(Prod(Prod(Prod(Prod(Prod(Prod(Prod(Prod(Prod(Prod(Prod(Prod(Prod(Prod(Prod(Prod(Prod(Prod(Prod(Prod(Prod(Z[1], Z[2]), Z[3]), Z[4]),";
 
 #[test]
+fn texts_in_each_form(rt: HostRuntime) -> Result<(), Fail> {
+    let alloc = rt.alloc();
+    let trees = b"allstructs([B, {B = Union(Z, Prod(B, B))}, unlabelled], size = 3);".as_slice();
+    let atoms = b"allstructs([S, {S = Union(Z, Z)}, unlabelled], size = 1);".as_slice();
+    let cases = [
+        (
+            "--form=tagged",
+            answered(
+                trees,
+                b"[2:Prod(1:Z, 2:Prod(1:Z, 1:Z)), 2:Prod(2:Prod(1:Z, 1:Z), 1:Z)]\n",
+            ),
+        ),
+        ("--form=tagged", answered(atoms, b"[1:Z, 2:Z]\n")),
+        (
+            "--form=maple",
+            answered(trees, b"[Prod(Z, Prod(Z, Z)), Prod(Prod(Z, Z), Z)]\n"),
+        ),
+        ("--form=maple", answered(atoms, b"[Z, Z]\n")),
+    ];
+    for (word, case) in cases {
+        sees_to(&rt, alloc, &words_of(alloc, &[word])?, case)?;
+    }
+    Ok(())
+}
+
+#[test]
 fn words_out_of_form(rt: HostRuntime) -> Result<(), Fail> {
     let alloc = rt.alloc();
-    let mut words = Vec::new(alloc);
-    words.push(String::from_str(alloc, "--help")?)?;
-    let mut input = SureSource::new(b";");
-    let mut shelf = SureShelf::new(&[]);
-    let mut out = SureSink::new(alloc);
-    let mut err = SureSink::new(alloc);
-    let status = run(alloc, &words, &mut input, &mut shelf, &mut out, &mut err);
-    assert_eq!(rt; status, Status::Words);
-    assert_eq!(rt; out.bytes(), b"".as_slice());
-    assert_eq!(rt; err.bytes(), USAGE.as_bytes());
+    let cases: [&[&str]; 8] = [
+        &["--form=xml"],
+        &["--form"],
+        &["--form="],
+        &["--form=tagged", "--form=tagged"],
+        &["--form=maple", "--form=tagged"],
+        &["x"],
+        &["--help"],
+        &[""],
+    ];
+    let usage = Case {
+        script: LISTED.script,
+        out: b"",
+        err: USAGE.as_bytes(),
+        status: Status::Words,
+    };
+    for given in cases {
+        sees_to(&rt, alloc, &words_of(alloc, given)?, usage)?;
+    }
     Ok(())
 }
 

@@ -1,6 +1,4 @@
-use Rattle.std.proofs.Common.{◌≡◌, ◌+◌, ◌-◌, ◌≤◌, ℕ, List, length, length-take, take, drop, slice_range, sym, subst, ◌∙◌, arith}
-use Rattle.spec_reader.specs.declared.place.Place.{Place}
-use Rattle.combstruct_cli.specs.Answer.{place_in}
+use Rattle.std.proofs.Common.{◌-◌, ◌≤◌, ℕ, List, length, length-take, drop, slice_range, sym, subst, ◌∙◌, arith}
 use Rattle.combstruct_cli.proofs.PieceLemmas.{IsPlaced, placed, place_later}
 use Rattle.combstruct_cli.proofs.run.place_further.Goals as goal
 

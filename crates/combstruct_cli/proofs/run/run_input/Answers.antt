@@ -1,7 +1,6 @@
-use Rattle.std.proofs.Common.{◌≡◌, ◌≤◌, ◌+◌, List, ℕ, Result, length, take, sym, subst, ◌∙◌, arith}
+use Rattle.std.proofs.Common.{◌≡◌, ◌≤◌, ◌+◌, List, ℕ, Result, take, sym, subst, ◌∙◌, arith}
 use Rattle.std.specs.List.{filter}
 use Rattle.spec_reader.specs.Cutting.{pieces}
-use Rattle.session.specs.declared.texts.TextForm.TheVariants.{Maple}
 use Rattle.session.specs.Effect.{first_state}
 use Rattle.combstruct_cli.specs.declared.fault.Fault.{Fault}
 use Rattle.combstruct_cli.specs.declared.run.Outcome.{Outcome}
@@ -17,7 +16,7 @@ returns-in-Ok-clause-makes g c =
     let script : List ℕ = c.in-Ok.script.items in
     let counts = c.in-Ok.script.ok.0 in
     let taken : script ≡ take (most_bytes + 1) given = taken_whole most_bytes given script _ _ told c.in-Ok.ensures.taken (λ short. c.in-Ok.ensures.end (subst (λ n. n ≤ most_bytes) (sym counts) short)) (subst (λ n. n ≤ most_bytes + 1) counts c.in-Ok.ensures.bound) in
-    c.run_script.ensures.makes whole (subst (λ (script : List ℕ). RunsPieces script (filter is_early (pieces script)) Maple first_state whole) (sym (c.deref.ensures.value ∙ taken)) runs)
+    c.run_script.ensures.makes whole (subst (λ (script : List ℕ). RunsPieces script (filter is_early (pieces script)) c.args.texts first_state whole) (sym (c.deref.ensures.value ∙ taken)) runs)
 
 pub returns-in-Ok-clause-cause : goal.returns-in-Ok-clause-cause
 returns-in-Ok-clause-cause g c =

@@ -7,7 +7,7 @@ use Rattle.spec_reader.specs.declared.refusal.ReadRefused.{ReadRefused}
 use Rattle.spec_reader.specs.Cutting.{first_piece_of}
 use Rattle.spec_reader.specs.Reading.{Answers}
 use Rattle.spec_reader.proofs.PieceLemmas.{piece-behind}
-use Rattle.session.specs.declared.texts.TextForm.{TextForm}
+use Rattle.struct_text.specs.declared.form.TextForm.{TextForm}
 use Rattle.session.specs.Effect.{State, Effect}
 use Rattle.combstruct_cli.specs.declared.fault.Fault.{Fault}
 use Rattle.combstruct_cli.specs.declared.run.Outcome.{Outcome}

@@ -1,17 +1,13 @@
-use Rattle.std.proofs.Common.{◌≡◌, ◌≤◌, ℕ, List, Option, Some, None, Result, Ok, Err, length, IsTrue, refl, sym, ap, subst, ◌∙◌, arith}
+use Rattle.std.proofs.Common.{◌≡◌, ◌≤◌, ℕ, List, Option, Ok, Err, length, refl, sym, subst, ◌∙◌, arith}
 use Rattle.std.specs.Prelude.{IfSome}
-use Rattle.std.specs.List.{filter}
-use Rattle.comb_io.specs.Writes.{Wrote}
-use Rattle.spec_reader.specs.Cutting.{pieces}
-use Rattle.session.specs.declared.texts.TextForm.{TextForm}
-use Rattle.session.specs.declared.texts.TextForm.TheVariants.{Maple}
+use Rattle.struct_text.specs.declared.form.TextForm.{TextForm}
 use Rattle.session.specs.Effect.{State, first_state}
 use Rattle.combstruct_cli.specs.declared.run.Outcome.{Outcome}
 use Rattle.combstruct_cli.specs.declared.run.Outcome.TheVariants.{Done}
 use Rattle.combstruct_cli.specs.declared.run.Ran.{Ran}
-use Rattle.combstruct_cli.specs.Answer.{Part, is_early, place_in, refusing_long, RunsPieces}
+use Rattle.combstruct_cli.specs.Answer.{place_in}
 use Rattle.combstruct_cli.specs.Outcome.{Makes}
-use Rattle.combstruct_cli.specs.Steps.{early_behind, Did, RunsNext}
+use Rattle.combstruct_cli.specs.Steps.{Did, RunsNext}
 use Rattle.combstruct_cli.proofs.RunLemmas.{HasRunCause-after}
 use Rattle.combstruct_cli.proofs.StepLemmas.{did_nothing, did_more, did_fail, did_end, did_end_fail}
 use Rattle.combstruct_cli.proofs.run.run_script.Goals as goal
@@ -23,7 +19,7 @@ loop-ran-init g c =
     let err = g.E.Sink.written c.args.err.now in (
       λ whole runs.
           subst (λ (t : TextForm). Did script 0 t c.in_ok-session.session.state out out err err whole Done) (sym c.in_ok-session.ensures.texts)
-          (subst (λ (s : State). Did script 0 Maple s out out err err whole Done) (sym c.in_ok-session.ensures.state) (did_nothing script Maple first_state out err whole runs)),
+          (subst (λ (s : State). Did script 0 c.args.texts s out out err err whole Done) (sym c.in_ok-session.ensures.state) (did_nothing script c.args.texts first_state out err whole runs)),
       c.in_ok-session.ensures.live,
       omega arith,
       omega arith,
