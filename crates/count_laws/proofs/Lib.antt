@@ -3,10 +3,10 @@ pub mod Binomials
 mod BySizes
 pub mod Convolutions
 pub mod Enlarged
-mod FewElements
+pub mod FewElements
 pub mod LabelledSets
 mod Larger
-mod MetTimes
+pub mod MetTimes
 pub mod MultisetNumbers
 mod Numbered
 pub mod OrdersTell

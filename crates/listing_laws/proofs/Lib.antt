@@ -27,9 +27,9 @@ pub mod Numbers
 pub mod KindLemmas
 pub mod NodeLemmas
 pub mod NodeRanks
-mod Ranges
-mod SortedParts
-mod UnlabelledSets
+pub mod Ranges
+pub mod SortedParts
+pub mod UnlabelledSets
 mod SameMany
 pub mod ByComponents
 pub mod LeastFirst
@@ -39,7 +39,7 @@ pub mod LeastCycles
 mod SizedElements
 pub mod LeastNumbers
 pub mod ContainersRecur
-mod SortedComponents
-mod LeastNodes
-mod Followers
-mod SortedNodes
+pub mod SortedComponents
+pub mod LeastNodes
+pub mod Followers
+pub mod SortedNodes
