@@ -186,7 +186,7 @@ fn next_part(
 }
 
 /// What remains of the supply without `part`.
-fn remaining(alloc: Global, supply: &Supply, part: &Supply) -> Result<Supply, AllocError>
+pub fn remaining(alloc: Global, supply: &Supply, part: &Supply) -> Result<Supply, AllocError>
     requires in_order { IsTrue (is_in_order supply.now) }
     requires part_in_order { IsTrue (is_in_order part.now) }
     requires part { IsPart (supply_labels part.now) (splits (supply_labels supply.now)) }

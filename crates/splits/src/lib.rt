@@ -16,7 +16,7 @@ mod walk;
 pub use capped::{plus, times};
 pub use copies::copy_supply;
 pub use laws::{parts_are_listed, splits_are_listed};
-pub use length_walk::LengthWalk;
+pub use length_walk::{LengthWalk, remaining};
 pub use pascal::Pascal;
 pub use walk::PartWalk;
 
