@@ -232,7 +232,7 @@ module _ (counts : Counts) (a : Inside) (full : IsFull a) (same : counts ≡ cou
       cell_is ∙ cell_at a full node m c (expr.Many kind element card) layer (read_marked node reached) at (read_layer m layer within is)
       ∙ row_value_any (grammar a.tables.grammar) kind element card m c full.told.is_checked.spec full.told.is_checked.well_founded (in_nodes a.tables.grammar.rules node _ at) low (high card card_here)
 
-  read_kind : (node : ℕ) (known : Kind) → option_map kind_of (node_at counts.checked.rules node) ≡ Some (container known)
+  pub read_kind : (node : ℕ) (known : Kind) → option_map kind_of (node_at counts.checked.rules node) ≡ Some (container known)
       → (element : Expression) × (card : Card) × (node_at a.tables.grammar.rules node ≡ Some (expr.Many known element card))
   read_kind node known is =
       kind_there (node_at a.tables.grammar.rules node) known (subst (λ (some : Counts). option_map kind_of (node_at some.checked.rules node) ≡ Some (container known)) same is)

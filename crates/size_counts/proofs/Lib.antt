@@ -17,3 +17,7 @@ pub mod FilledLemmas
 pub mod SaysLaws
 pub mod PlaceWithin
 pub mod SharedLemmas
+pub mod TotalsLemmas
+pub mod TotalsTable
+pub mod TotalsValue
+pub mod TotalsFilled

@@ -1,6 +1,7 @@
 -- What is known of tables as they are filled, and once they are full.
 use Rattle.std.specs.Prelude.{◌≡◌, ℕ, ◌+◌, ◌≤◌, length, find, Option, Some, None, Result, Ok, Err}
 use Rattle.std.specs.List.{flat_map, range_with_len}
+use Rattle.spec_syntax.specs.Rules.{all_nodes}
 use Rattle.well_founded.specs.Checked.{grammar}
 use Rattle.size_counts.specs.declared.place.CountFault.{CountFault}
 use Rattle.size_counts.specs.declared.place.CountFault.TheVariants.{TooLarge, Memory}
@@ -10,6 +11,7 @@ use Rattle.size_counts.specs.Numbers.{Spot, numbers_of_size, is_large_spot, plac
 use Rattle.size_counts.specs.Reached.{AreReached}
 use Rattle.size_counts.specs.Tables.{Layer}
 use Rattle.size_counts.specs.Told.{IsLayer, AreTold}
+use Rattle.size_counts.specs.Totals.{AreKept}
 use Rattle.size_counts.specs.CountedView.{Counts}
 
 -- the first of the numbers at size m that is too large
@@ -38,7 +40,7 @@ pub record IsFilledTo (before tables : Tables) (m : ℕ) : Type 0 where
 abbrev pub counts_of : Inside → Counts
 counts_of a = record { checked = a.tables.grammar; size = a.size }
 
--- the tables are full, and their marks are those of what the class reaches
+-- the tables are full, their marks are those of what the class reaches, and the rows of its nodes are there
 pub record IsFull (a : Inside) : Type 0 where
   pub sym : ℕ
   pub start : a.tables.grammar.start ≡ Some sym
@@ -46,3 +48,4 @@ pub record IsFull (a : Inside) : Type 0 where
   pub told : AreTold a.tables.grammar a.tables.marks.items a.tables.layers.items
   pub filled : length a.tables.layers.items ≡ a.size + 1
   pub small : a.size ≤ 1000
+  pub kept : AreKept a.tables (length (all_nodes a.tables.grammar.rules)) a.totals.items

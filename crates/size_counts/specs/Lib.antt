@@ -12,6 +12,7 @@ pub mod Turns
 pub mod Layers
 pub mod Spots
 pub mod CountedView
+pub mod Totals
 pub mod Filled
 pub mod CountedCode
 pub mod Laws

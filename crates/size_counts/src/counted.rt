@@ -1,21 +1,26 @@
 //! The numbers of a class up to a size.
-ghost use Rattle.std.specs.Prelude.{◌≡◌, ◌⊎◌, ◌+◌, ◌-◌, ◌≤◌, ◌<◌, ◌↔◌, ◌∷◌, [], ◌++◌, ℕ, true, Some, None, length, IfOk, IfErr, OnOk, IsSome, IfSome, IsTrue};
+ghost use Rattle.std.specs.Prelude.{◌≡◌, ◌⊎◌, ◌+◌, ◌-◌, ◌≤◌, ◌<◌, ◌↔◌, ◌∷◌, [], ◌++◌, ℕ, List, nat_eq, true, false, slice_get, Some, None, length, IfOk, IfErr, OnOk, IsSome, IfSome, IsTrue};
 ghost use Rattle.std.specs.Option.{option_map, option_map_or};
 ghost use Rattle.spec_syntax.specs.declared.expr.Card.{Card as AnyCard};
 ghost use Rattle.spec_syntax.specs.Card.{is_within};
 ghost use Rattle.spec_syntax.specs.Expression.{Name};
 ghost use Rattle.spec_syntax.specs.Rules.{all_nodes, rule_name};
+ghost use Rattle.spec_syntax.specs.declared.statement.Universe.TheVariants.{Unlabelled};
 ghost use Rattle.struct_model.specs.Bounded.{number};
+ghost use Rattle.struct_model.specs.Structure.{Structure, size};
+ghost use Rattle.struct_model.specs.Membership.{supply};
 ghost use Rattle.spec_syntax.specs.Nodes.{node_at, card_at, children_at, right_node, arguments_at};
 ghost use Rattle.well_founded.specs.declared.node.NodeKind.TheVariants as told;
 ghost use Rattle.well_founded.specs.NodeKinds.{kind_of};
 ghost use Rattle.well_founded.specs.Checked.{grammar as grammar_of};
+ghost use Rattle.listing_laws.specs.SortedNodes.{sorted_at};
 ghost use Rattle.size_counts.specs.Reached.{IsReached};
 ghost use Rattle.size_counts.specs.Numbers.{NumbersSay, first_large};
 ghost use Rattle.size_counts.specs.Told.{IsReady};
 ghost use Rattle.size_counts.specs.Ways.{CanSplit};
 ghost use Rattle.size_counts.specs.CountedView.{Counts as CountsSeen, IsCounted, IsReachedIn, number_of, suffix_of, lists_of, sets_of, cycles_of, FaultSays};
 ghost use Rattle.size_counts.specs.Filled.{LayerSays, FaultAt, IsFilledTo};
+ghost use Rattle.size_counts.specs.Totals.{may_fill};
 
 use crate::fill::{counts, longer_each};
 use crate::layer::{kept, too_large};
@@ -25,7 +30,9 @@ use crate::rows::rows;
 use crate::spot::place_of;
 use crate::sums::Ways;
 use crate::tables::{Tables, cell};
+use crate::totals::{is_filled, totals};
 use seq::Seq;
+use spec_syntax::{Card, Universe};
 use std::alloc::{AllocError, Global};
 use std::marker::Model;
 use well_founded::Grammar;
@@ -80,6 +87,7 @@ fn filled(alloc: Global, mut tables: Tables, size: u32) -> Result<Tables, CountF
 pub struct Counted {
     tables: Tables,
     size: u32,
+    totals: Vec<Seq<Seq<u32>>>,
 }
 
 impl Model for Counted {
@@ -120,7 +128,12 @@ impl Counted {
             layers: Vec::new(alloc),
         };
         let tables = filled(alloc, tables, size)?;
-        Ok(Counted { tables, size })
+        let totals = totals(alloc, &tables)?;
+        Ok(Counted {
+            tables,
+            size,
+            totals,
+        })
     }
 
     /// The grammar.
@@ -216,5 +229,31 @@ impl Counted {
         ensures { result ≡ cycles_of self.now node c m }
     {
         cell(&self.tables.layers[m as usize], node, c) / c as u128
+    }
+
+    /// Whether so many atoms can be shared out among as many components as the bound admits, each of at least `least` atoms,
+    /// of sizes of which the element has structures; in a PowerSet at most as many of a size as the element has structures of
+    /// it. With labels it is told of no atoms alone.
+    pub fn may_fill(&self, node: u32, card: Card, least: u32, n: u32) -> bool
+        requires reached { IsReachedIn self.now node }
+        requires kind { (option_map kind_of (node_at self.now.checked.rules node) ≡ Some told.Set) ⊎ (option_map kind_of (node_at self.now.checked.rules node) ≡ Some told.PowerSet) }
+        requires high { (own : AnyCard) (c : ℕ) → card_at self.now.checked.rules node ≡ Some own → is_within card.high c ≡ true → is_within own.high c ≡ true }
+        requires within { n ≤ self.now.size }
+        ensures no_sets { self.now.checked.universe ≡ Unlabelled → option_map kind_of (node_at self.now.checked.rules node) ≡ Some told.Set → result ≡ false → (element : ℕ) → slice_get (children_at self.now.checked.rules node) 0 ≡ Some element → (s : Structure) → least ≤ size s → sorted_at self.now.checked element false card (Some s) (supply Unlabelled n) ≡ [] }
+        ensures no_power_sets { self.now.checked.universe ≡ Unlabelled → option_map kind_of (node_at self.now.checked.rules node) ≡ Some told.PowerSet → result ≡ false → (element : ℕ) → slice_get (children_at self.now.checked.rules node) 0 ≡ Some element → (s : Structure) → least ≤ size s → sorted_at self.now.checked element true card (Some s) (supply Unlabelled n) ≡ [] }
+        ensures no_atoms { n ≡ 0 → result ≡ nat_eq card.low 0 }
+        ensures sets { self.now.checked.universe ≡ Unlabelled → option_map kind_of (node_at self.now.checked.rules node) ≡ Some told.Set → (element : ℕ) → slice_get (children_at self.now.checked.rules node) 0 ≡ Some element → result ≡ may_fill (number_of self.now element) false card least n }
+        ensures power_sets { self.now.checked.universe ≡ Unlabelled → option_map kind_of (node_at self.now.checked.rules node) ≡ Some told.PowerSet → (element : ℕ) → slice_get (children_at self.now.checked.rules node) 0 ≡ Some element → result ≡ may_fill (number_of self.now element) true card least n }
+    {
+        if n == 0 {
+            return card.low == 0;
+        }
+        match self.tables.grammar.universe() {
+            Universe::Labelled => true,
+            Universe::Unlabelled => {
+                let rows = self.totals[node as usize].as_slice();
+                is_filled(rows, card, least.max(1), n)
+            }
+        }
     }
 }

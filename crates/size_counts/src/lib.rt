@@ -19,6 +19,7 @@ mod subsets;
 mod suffixes;
 mod sums;
 mod tables;
+mod totals;
 
 pub use counted::Counted;
 pub use laws::numbers_of_a_class_say_one_thing;

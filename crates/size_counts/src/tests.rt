@@ -1,5 +1,5 @@
 //! Tests of the numbers of small classes.
-ghost use Rattle.std.specs.Prelude.{◌≡◌, Some, None, [], ◌∷◌, ◌++◌, ◌≤◌, IfOk, IsTrue, IsSome};
+ghost use Rattle.std.specs.Prelude.{◌≡◌, Some, None, [], ◌∷◌, ◌++◌, ◌≤◌, length, IfOk, IsTrue, IsSome};
 ghost use Rattle.spec_syntax.specs.Rules.{is_spec, symbol};
 ghost use Rattle.spec_syntax.specs.Card.{is_writable};
 ghost use Rattle.spec_syntax.specs.declared.expr.Kind.TheVariants.{Sequence as SequenceOf, Cycle as CycleOf};
@@ -302,6 +302,105 @@ fn the_first_too_large(rt: HostRuntime) -> Result<(), Fail> {
         size: 132,
     };
     assert!(rt; count(alloc, sets, Universe::Labelled, 132)? == Err(Some(place)));
+    Ok(())
+}
+
+/// Whether the containers of atoms of two kinds and of pairs of atoms are so many, by size from 0 on.
+fn are_so_many(
+    alloc: Global,
+    kind: Kind,
+    card: Card,
+    universe: Universe,
+    numbers: &[u128],
+) -> Result<bool, AllocError>
+    requires bound { IsTrue (is_writable card) }
+    requires few { length numbers.now ≤ 6 }
+{
+    for (size, number) in numbers.iter().enumerate() {
+        let pair = prod_of(alloc, atom(), atom())?;
+        let element = union_of(alloc, atom(), union_of(alloc, atom(), pair)?)?;
+        let right = many(alloc, kind, element, card)?;
+        if count(alloc, right, universe, size as u32)? != Ok(*number) {
+            return Ok(false);
+        }
+    }
+    Ok(true)
+}
+
+/// The bound that admits two components.
+const TWO: Card = Card {
+    low: 2,
+    high: Some(2),
+};
+
+/// The bound that admits at most two.
+const TO_TWO: Card = Card {
+    low: 0,
+    high: Some(2),
+};
+
+#[test]
+fn numbers_are_of_the_listings(rt: HostRuntime) -> Result<(), Fail> {
+    let alloc = rt.alloc();
+    let zeros = Universe::Unlabelled;
+    let labels = Universe::Labelled;
+    let words = are_so_many(alloc, Kind::Sequence, ANY, zeros, &[1, 2, 5, 12, 29, 70])?;
+    assert!(rt; words);
+    let sets = are_so_many(alloc, Kind::Set, ANY, zeros, &[1, 2, 4, 6, 9, 12])?
+        && are_so_many(alloc, Kind::Set, TO_TWO, zeros, &[1, 2, 4, 2, 1, 0])?
+        && are_so_many(alloc, Kind::Set, ANY, labels, &[1, 2, 6, 20, 76])?;
+    assert!(rt; sets);
+    let power_sets = are_so_many(alloc, Kind::PowerSet, ANY, zeros, &[1, 2, 2, 2, 1, 0])?
+        && are_so_many(alloc, Kind::PowerSet, TWO, zeros, &[0, 0, 1, 2, 0, 0])?
+        && are_so_many(alloc, Kind::PowerSet, TWO, labels, &[0, 0, 4, 12, 12])?;
+    assert!(rt; power_sets);
+    let cycles = are_so_many(alloc, Kind::Cycle, ANY, labels, &[0, 2, 6, 28, 204])?
+        && are_so_many(alloc, Kind::Cycle, TO_TWO, labels, &[0, 2, 6, 12, 12])?;
+    assert!(rt; cycles);
+    Ok(())
+}
+
+/// Whether so many parts of the class's partitions, each at least so large, can have n atoms in all.
+fn may_fill(counted: &Counted, card: Card, least: u32, n: u32) -> bool {
+    let grammar = counted.grammar();
+    if grammar.nodes() == 0 || n > counted.size() || !counted.reached(0) {
+        return false;
+    }
+    match grammar.kind(0) {
+        NodeKind::Set | NodeKind::PowerSet => match grammar.card(0).high {
+            Some(_) => false,
+            None => counted.may_fill(0, card, least, n),
+        },
+        NodeKind::Epsilon
+        | NodeKind::Atom
+        | NodeKind::Rule
+        | NodeKind::Union
+        | NodeKind::Prod
+        | NodeKind::Sequence
+        | NodeKind::Cycle => false,
+    }
+}
+
+#[test]
+fn parts_that_are_left(rt: HostRuntime) -> Result<(), Fail> {
+    let alloc = rt.alloc();
+    let any = counted(alloc, parts(alloc, Kind::Set)?, Universe::Unlabelled, 8)?;
+    let distinct = counted(
+        alloc,
+        parts(alloc, Kind::PowerSet)?,
+        Universe::Unlabelled,
+        8,
+    )?;
+    if let (Some(Ok(any)), Some(Ok(distinct))) = (any, distinct) {
+        let halves = may_fill(&any, TWO, 4, 8) && !may_fill(&distinct, TWO, 4, 8);
+        assert!(rt; halves);
+        let large = !may_fill(&any, TWO, 5, 8) && may_fill(&distinct, ANY, 8, 8);
+        assert!(rt; large);
+        let none = may_fill(&any, TO_TWO, 3, 0) && !may_fill(&any, TWO, 1, 0);
+        assert!(rt; none);
+        return Ok(());
+    }
+    assert!(rt; false);
     Ok(())
 }
 
