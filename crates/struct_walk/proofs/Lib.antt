@@ -1,3 +1,4 @@
+pub mod SplitWalkLemmas
 pub mod TailListings
 pub mod TailLemmas
 pub mod TailBounds
@@ -11,3 +12,18 @@ pub mod StepForms
 pub mod StepNodes
 pub mod WalkerLemmas
 pub mod OpenLemmas
+pub mod SortedLemmas
+pub mod SortedMeasures
+pub mod SortedOpens
+pub mod BehindSorted
+pub mod StepSorted
+pub mod SortedLabels
+pub mod PartLabels
+pub mod ResumedNodes
+pub mod ResumedSplits
+pub mod ResumedLists
+pub mod NodeOrder
+pub mod ResumedSorted
+pub mod SeekLemmas
+pub mod BehindNodes
+pub mod BehindLists

@@ -11,33 +11,39 @@ use Rattle.lists.proofs.Positions.{slice_some}
 use Rattle.lists.proofs.Shares.{share_within, others_are_0}
 use Rattle.lists.proofs.RangeSums.{sum_first, sum_append}
 use Rattle.lists.proofs.Sums.{sum_more, sum_at, sum_drop}
-use Rattle.lists.proofs.Tests.{held}
 use Rattle.spec_syntax.specs.declared.expr.Card.{Card}
 use Rattle.spec_syntax.specs.Card.{admits, is_within}
 use Rattle.spec_syntax.specs.declared.statement.Universe.{Universe}
+use Rattle.spec_syntax.specs.declared.expr.Kind.{Kind}
+use Rattle.spec_syntax.specs.declared.expr.Kind.TheVariants as kind
 use Rattle.spec_syntax.specs.Expression as expr
 use Rattle.spec_syntax.specs.Expression.{Expression, expression_list}
 use Rattle.spec_syntax.specs.Rules.{Rules, symbol, all_nodes}
-use Rattle.spec_syntax.specs.Nodes.{arguments_of, children_of, children_at, card_at, name_at, right_node}
+use Rattle.spec_syntax.specs.Nodes.{arguments_of, children_of, children_at, card_at, card_of, name_at, right_node}
 use Rattle.spec_syntax.proofs.NodesLemmas.{length-children_of}
 use Rattle.well_founded.specs.declared.node.NodeKind.{NodeKind}
 use Rattle.well_founded.specs.declared.node.NodeKind.TheVariants as told
+use Rattle.well_founded.specs.NodeKinds.{container}
 use Rattle.well_founded.specs.Checked.{Checked, IsChecked}
 use Rattle.listing_laws.specs.Numbers.{ways, joined}
 use Rattle.listing_laws.specs.Lister.{after_one, admits_some, list_empty}
-use Rattle.listing_laws.specs.NodeListing.{HasKind, IsElement, rank_at, rule_rank, least_at, number_of_node, number_from, lists_on}
-use Rattle.listing_laws.proofs.NodeLemmas.{ProdNode, prod_node, prod_children, Component, component, least_entry, children_at_is, nodes_are_listed, nodes_are_counted}
-use Rattle.listing_laws.proofs.NodeRanks.{falls, rank_within, rule_falls, told_rank, union_falls, sequence_falls}
+use Rattle.listing_laws.specs.NodeListing.{HasKind, rank_at, rule_rank, least_at, number_of_node, number_from, lists_on}
+use Rattle.listing_laws.specs.LeastNodes.{set_lists_on, cycle_lists_on}
+use Rattle.listing_laws.specs.SortedNodes.{IsContained}
+use Rattle.listing_laws.proofs.LeastNodes.{labelled_nodes_are_listed, labelled_nodes_are_counted}
+use Rattle.listing_laws.proofs.NodeLemmas.{ProdNode, prod_node, prod_children, Component, component, ContainerNode, container_node, least_entry, children_at_is, nodes_are_counted}
+use Rattle.listing_laws.proofs.NodeRanks.{falls, rank_within, rule_falls, told_rank, union_falls}
 use Rattle.struct_model.specs.Structure.{Structure}
 use Rattle.struct_model.specs.Membership.{supply}
 use Rattle.struct_model.proofs.SupplyLaws.{supply_size}
-use Rattle.size_counts.specs.CountedView.{Counts, IsCounted}
+use Rattle.size_counts.specs.CountedView.{Counts, IsCounted, IsReachedIn}
 use Rattle.size_counts.proofs.ReachedLemmas.{take_one}
 use Rattle.struct_walk.specs.declared.tail.Tail.{Tail}
-use Rattle.struct_walk.specs.declared.tail.Tail.TheVariants.{Components, Elements}
+use Rattle.struct_walk.specs.declared.tail.Tail.TheVariants.{Components, Elements, SetElements, CycleElements}
 use Rattle.struct_walk.specs.declared.tail.Cut.{Cut}
 use Rattle.struct_walk.specs.Tails.{IsTail, tail_number, cut_of}
 use Rattle.struct_walk.proofs.ReachedNodes.{reached_within, reached_child}
+use Rattle.struct_walk.proofs.TailLemmas.{elements_kind, is_element, sets_kind, is_set_element, is_cycle_element}
 
 -- ---- numbers
 
@@ -47,15 +53,19 @@ most_children rules = sum (map (λ e. length (arguments_of e)) (all_nodes rules)
 
 -- of the sizes and ranks, greater sizes first
 unfoldable pub level : Checked → ℕ → ℕ → ℕ
-level checked n rank = (2 * most_children checked.rules + 8) * (n * (length (all_nodes checked.rules) + 1) + rank)
+level checked n rank = (2 * most_children checked.rules + 32) * (n * (length (all_nodes checked.rules) + 1) + rank)
 
 -- what lies between two levels
 unfoldable pub span : Checked → ℕ
-span checked = 2 * most_children checked.rules + 8
+span checked = 2 * most_children checked.rules + 32
 
 -- the measure of opening a node with n atoms
 abbrev pub node_measure : Checked → ℕ → ℕ → ℕ
-node_measure checked node n = level checked n (rank_at checked node) + 2 * most_children checked.rules + 7
+node_measure checked node n = level checked n (rank_at checked node) + 2 * most_children checked.rules + 20
+
+-- that of opening a Set by its form
+abbrev pub set_measure : Checked → ℕ → ℕ → ℕ
+set_measure checked node n = level checked n (rank_at checked node) + 2 * most_children checked.rules + 19
 
 -- that of opening a rule
 abbrev pub rule_measure : Checked → ℕ → ℕ → ℕ
@@ -69,17 +79,27 @@ union_measure checked node n = level checked n (rank_at checked node)
 abbrev pub node_of_tail : Tail → ℕ
 node_of_tail (Components node place) = node
 node_of_tail (Elements node element card) = node
+node_of_tail (SetElements node element card) = node
+node_of_tail (CycleElements node element card) = node
 
 -- a number that falls from component to component
 abbrev pub left_over : Checked → Tail → ℕ
 left_over checked (Components node place) = 2 * (length (children_at checked.rules node) - place) + 1
 left_over checked (Elements node element card) = 1
+left_over checked (SetElements node element card) = 1
+left_over checked (CycleElements node element card) = 1
+
+-- where the bound admits one element, does the container's own
+abbrev pub element_can_have_all : Checked → ℕ → Card → Bool
+element_can_have_all checked node card = not (admits card 1) || option_map_or (λ own. admits own 1) (card_at checked.rules node) false
 
 -- can the lists have all atoms of the structure: the components before them can be empty; and where the bound admits one element,
--- the Sequence's own does
+-- the container's own does
 abbrev pub can_have_all : Checked → Tail → Bool
 can_have_all checked (Components node place) = nat_eq (sum (map (least_at checked) (take place (children_at checked.rules node)))) 0
-can_have_all checked (Elements node element card) = not (admits card 1) || option_map_or (λ own. admits own 1) (card_at checked.rules node) false
+can_have_all checked (Elements node element card) = element_can_have_all checked node card
+can_have_all checked (SetElements node element card) = element_can_have_all checked node card
+can_have_all checked (CycleElements node element card) = element_can_have_all checked node card
 
 -- the measure of opening lists with n atoms
 unfoldable pub lists_measure : Checked → Tail → ℕ → ℕ
@@ -113,17 +133,17 @@ up s w d n low high size rank = mul-le s (d * w + low) s (n * w + high) (omega a
 module _ (checked : Checked) where
   pub level_rank : (n low high : ℕ) → low < high → level checked n low + span checked ≤ level checked n high
   unfolding level span
-  level_rank n low high less = by_rank (2 * most_children checked.rules + 8) (length (all_nodes checked.rules) + 1) n low high less
+  level_rank n low high less = by_rank (2 * most_children checked.rules + 32) (length (all_nodes checked.rules) + 1) n low high less
 
   pub level_size : (d n rank : ℕ) → d < n → rank ≤ length (all_nodes checked.rules) → level checked d rank + span checked ≤ level checked n 0
   unfolding level span
-  level_size d n rank less within = by_size (2 * most_children checked.rules + 8) (length (all_nodes checked.rules) + 1) d n rank less (omega arith)
+  level_size d n rank less within = by_size (2 * most_children checked.rules + 32) (length (all_nodes checked.rules) + 1) d n rank less (omega arith)
 
   pub level_up : (d n low high : ℕ) → d ≤ n → low ≤ high → level checked d low ≤ level checked n high
   unfolding level
-  level_up d n low high size rank = up (2 * most_children checked.rules + 8) (length (all_nodes checked.rules) + 1) d n low high size rank
+  level_up d n low high size rank = up (2 * most_children checked.rules + 32) (length (all_nodes checked.rules) + 1) d n low high size rank
 
-  pub span_is : span checked ≡ 2 * most_children checked.rules + 8
+  pub span_is : span checked ≡ 2 * most_children checked.rules + 32
   unfolding span
   span_is = refl
 
@@ -255,12 +275,6 @@ some_admitted false xs some = absurd (omega arith)
 low_enough : (low : ℕ) → nat_le (low - 1) 0 ≡ true → nat_le low 1 ≡ true
 low_enough low h = grind (arith, nat_tests)
 
-below_1 : (low : ℕ) → nat_le low 1 ≡ true → low ≤ 1
-below_1 low h = grind (arith, nat_tests)
-
-not_0 : (high : Option ℕ) → is_within high 1 ≡ true → high ≡ Some 0 → ⊥
-not_0 high within none = let e : false ≡ true = sym (ap (λ (o : Option ℕ). is_within o 1) none) ∙ within in cc
-
 -- b, or not b
 either : (b : Bool) → not b || b ≡ true
 either true = refl
@@ -270,29 +284,59 @@ second_of : (a b : Bool) → not a || b ≡ true → a ≡ true → b ≡ true
 second_of true b h is = h
 second_of false b h is = let e : false ≡ true = is in cc
 
+-- where the bound admits a component, and lowered by one none, it admits one
+one_admitted : (card : Card) → admits_some card ≡ true → admits (after_one card) 0 ≡ true → admits card 1 ≡ true
+one_admitted card first none_left =
+    and_from (nat_le card.low 1) (is_within card.high 1) (low_enough card.low (and_parts _ _ none_left).0) first
+
 module _ (checked : Checked) (passed : IsChecked checked) where
-  -- where a list of one element is a list with all atoms, the bound admits one element
-  one_admitted : (element : ℕ) (card : Card) (n : ℕ) → IsElement checked element → 0 < n
+  -- lists of n atoms whose first component has all of them are there by a bound that admits one component
+  one_of : (card : Card) (lists all others : List (List Structure)) → lists ≡ (if admits_some card then all else []) → 0 < length lists
+      → others ≡ list_empty (after_one card) → 0 < length others → admits card 1 ≡ true
+  one_of card lists all others first some behind some_behind =
+      one_admitted card (some_admitted (admits_some card) all (subst (λ (xs : List (List Structure)). 0 < length xs) first some))
+      (some_admitted (admits (after_one card) 0) ([] ∷ []) (subst (λ (xs : List (List Structure)). 0 < length xs) behind some_behind))
+
+  empty_supply : supply checked.universe 0 ≡ []
+  empty_supply = nil_from_length (supply checked.universe 0) (supply_size checked.universe 0)
+
+  full_supply : (n : ℕ) → 0 < n → 0 < length (supply checked.universe n)
+  full_supply n some = omega (arith, some, supply_size checked.universe n)
+
+  one_list : (element : ℕ) (card : Card) (n : ℕ) → IsContained checked element → 0 < n
       → 0 < length (lists_on checked element card (supply checked.universe n))
       → 0 < length (lists_on checked element (after_one card) (supply checked.universe 0)) → admits card 1 ≡ true
-  one_admitted element card n is some lists others =
-      let nothing : supply checked.universe 0 ≡ [] = nil_from_length (supply checked.universe 0) (supply_size checked.universe 0) in
-      let empty : lists_on checked element (after_one card) (supply checked.universe 0) ≡ list_empty (after_one card) =
-      ap (lists_on checked element (after_one card)) nothing ∙ nodes_are_listed.empty checked element (after_one card) is in
-      let none_left : admits (after_one card) 0 ≡ true = some_admitted (admits (after_one card) 0) ([] ∷ []) (subst (λ (xs : List (List Structure)). 0 < length xs) empty others) in
-      let first : admits_some card ≡ true =
-      some_admitted (admits_some card) _ (subst (λ (xs : List (List Structure)). 0 < length xs)
-      (nodes_are_listed.lists checked element card (supply checked.universe n) is (omega (arith, some, supply_size checked.universe n))) lists) in
-      and_from (nat_le card.low 1) (is_within card.high 1) (low_enough card.low (and_parts _ _ none_left).0) first
+  one_list element card n is some lists others =
+      one_of card (lists_on checked element card (supply checked.universe n)) _ (lists_on checked element (after_one card) (supply checked.universe 0))
+      (labelled_nodes_are_listed.lists checked element card (supply checked.universe n) is (full_supply n some)) lists
+      (ap (lists_on checked element (after_one card)) empty_supply ∙ labelled_nodes_are_listed.no_list checked element (after_one card) is) others
 
-  element_falls : (node element n : ℕ) → HasKind checked node told.Sequence → slice_get (children_at checked.rules node) 0 ≡ Some element → n ≤ 1000
+  one_set : (element : ℕ) (card : Card) (n : ℕ) → IsContained checked element → 0 < n
+      → 0 < length (set_lists_on checked element card (supply checked.universe n))
+      → 0 < length (set_lists_on checked element (after_one card) (supply checked.universe 0)) → admits card 1 ≡ true
+  one_set element card n is some lists others =
+      one_of card (set_lists_on checked element card (supply checked.universe n)) _ (set_lists_on checked element (after_one card) (supply checked.universe 0))
+      (labelled_nodes_are_listed.sets checked element card (supply checked.universe n) is (full_supply n some)) lists
+      (ap (set_lists_on checked element (after_one card)) empty_supply ∙ labelled_nodes_are_listed.no_set checked element (after_one card) is) others
+
+  one_cycle : (element : ℕ) (card : Card) (n : ℕ) → IsContained checked element → 0 < n
+      → 0 < length (cycle_lists_on checked element card (supply checked.universe n))
+      → 0 < length (lists_on checked element (after_one card) (supply checked.universe 0)) → admits card 1 ≡ true
+  one_cycle element card n is some lists others =
+      one_of card (cycle_lists_on checked element card (supply checked.universe n)) _ (lists_on checked element (after_one card) (supply checked.universe 0))
+      (labelled_nodes_are_listed.cycles checked element card (supply checked.universe n) is (full_supply n some)) lists
+      (ap (lists_on checked element (after_one card)) empty_supply ∙ labelled_nodes_are_listed.no_list checked element (after_one card) is) others
+
+  element_falls : (k : Kind) (node element n : ℕ) → HasKind checked node (container k) → slice_get (children_at checked.rules node) 0 ≡ Some element → n ≤ 1000
       → 0 < number_of_node checked element n
       → option_map_or (λ own. admits own 1) (card_at checked.rules node) false ≡ true → rank_at checked element < rank_at checked node
-  element_falls node element n kind child small some one =
-      let own = held (λ (own : Card). admits own 1) (card_at checked.rules node) one in
-      let both = and_parts (nat_le own.0.low 1) (is_within own.0.high 1) own.2 in
-      sequence_falls checked passed node element own.0 kind child own.1 (below_1 own.0.low both.0) (not_0 own.0.high both.1)
-      (omega (arith, least_within_size checked passed element n some, small))
+  element_falls k node element n h child small some one =
+      let c : ContainerNode checked k node element = container_node checked k node element h child in
+      let whole : Expression = expr.Many k c.e c.card in
+      let own : card_at checked.rules node ≡ Some c.card = ap (option_and_then card_of) c.at in
+      let admitted : admits c.card 1 ≡ true = ap (λ (found : Option Card). option_map_or (λ card. admits card 1) found false) (sym own) ∙ one in
+      falls checked passed node 0 element whole c.e c.at (ap (λ ms. slice_get ms 0) (sym (children_at_is checked.rules node whole c.at)) ∙ child) c.inside
+      (omega (arith, least_within_size checked passed element n some, small)) admitted
 
   -- ---- on the way down from a node
 
@@ -393,18 +437,14 @@ module _ (checked : Checked) (passed : IsChecked checked) where
     components_down : split_measure checked (record { first = child; behind = later }) d m < lists_measure checked now n
     components_down = omega (arith, component_down (can_have_all checked now) refl, later_down (can_have_all checked now) (can_have_all checked later) refl refl)
 
-  module _ (node element : ℕ) (card : Card) (d m n : ℕ) (kind : HasKind checked node told.Sequence) (child : slice_get (children_at checked.rules node) 0 ≡ Some element)
+  module _ (k : Kind) (node element : ℕ) (card : Card) (d m n : ℕ) (h : HasKind checked node (container k)) (child : slice_get (children_at checked.rules node) 0 ≡ Some element)
       (there : element < length (all_nodes checked.rules)) (inside : node < length (all_nodes checked.rules)) (total : d + m ≡ n) (small : n ≤ 1000)
-      (first : 0 < number_of_node checked element d) (behind : 0 < tail_number checked (Elements node element (after_one card)) m)
-      (lists : 0 < tail_number checked (Elements node element card) n) where
+      (first : 0 < number_of_node checked element d) (one : 0 < n → m ≡ 0 → admits card 1 ≡ true) where
     abbrev elements : Tail
     elements = Elements node element card
 
     abbrev others : Tail
     others = Elements node element (after_one card)
-
-    is_element : IsElement checked element
-    is_element = record { node = node; sequence = kind; child = child }
 
     some_taken : 0 < d
     some_taken = by (cases_lt 0 d)
@@ -413,7 +453,12 @@ module _ (checked : Checked) (passed : IsChecked checked) where
         by (inl some) = some
         by (inr none) =
             let same : d ≡ 0 = omega arith in
-            absurd (omega (arith, first, ap (number_of_node checked element) same, nodes_are_counted.element checked element passed is_element))
+            absurd (omega (
+              arith,
+              first,
+              ap (number_of_node checked element) same,
+              labelled_nodes_are_counted.element checked element passed (record { node = node; kind = k; is = h; child = child }),
+            ))
 
     element_down : (b : Bool) → can_have_all checked elements ≡ b → node_measure checked element d + 1 < lists_measure checked elements n
     element_down false fewer = omega (arith, fewer_down element d (n + 1) there (omega arith), lists_fewer checked elements n fewer)
@@ -422,13 +467,10 @@ module _ (checked : Checked) (passed : IsChecked checked) where
         by : (d < n) ⊎ (n ≤ d) → node_measure checked element d + 1 < lists_measure checked elements n
         by (inl less) = omega (arith, fewer_down element d n there less, level_up checked n n 0 (rank_at checked node) (omega arith) (omega arith), lists_all checked elements n all)
         by (inr more) =
-            let none : m ≡ 0 = omega arith in
             let same : d ≡ n = omega arith in
-            let one : admits card 1 ≡ true =
-            one_admitted element card n is_element (omega (arith, some_taken)) lists (subst (λ (k : ℕ). 0 < tail_number checked others k) none behind) in
             let falls : rank_at checked element < rank_at checked node =
-            element_falls node element n kind child small (subst (λ (k : ℕ). 0 < number_of_node checked element k) same first)
-            (second_of (admits card 1) (option_map_or (λ own. admits own 1) (card_at checked.rules node) false) all one) in
+            element_falls k node element n h child small (subst (λ (k : ℕ). 0 < number_of_node checked element k) same first)
+            (second_of (admits card 1) (option_map_or (λ own. admits own 1) (card_at checked.rules node) false) all (one (omega (arith, some_taken)) (omega arith))) in
             omega (arith, lower_down element node n falls, ap (node_measure checked element) same, lists_all checked elements n all)
 
     rank_in : rank_at checked node ≤ length (all_nodes checked.rules)
@@ -477,12 +519,73 @@ module _ (checked : Checked) (passed : IsChecked checked) where
   pub prod_down : (node n : ℕ) → node < length (all_nodes checked.rules) → lists_measure checked (Components node 0) n + 1 < node_measure checked node n
   prod_down node n within = omega (arith, lists_all checked (Components node 0) n refl, few_children checked node within)
 
-  pub sequence_down : (node element n : ℕ) (card : Card) → card_at checked.rules node ≡ Some card
-      → lists_measure checked (Elements node element card) n + 1 < node_measure checked node n
-  sequence_down node element n card own = omega (arith, lists_all checked (Elements node element card) n all)
+  pub elements_down_all : (node element n : ℕ) (card : Card) → card_at checked.rules node ≡ Some card
+      → lists_measure checked (Elements node element card) n + 2 < node_measure checked node n
+  elements_down_all node element n card own = omega (arith, lists_all checked (Elements node element card) n all)
     where
       all : can_have_all checked (Elements node element card) ≡ true
       all = ap (λ (found : Option Card). not (admits card 1) || option_map_or (λ c. admits c 1) found false) own ∙ either (admits card 1)
+
+-- the measures of the lists of a container
+pub set_measure_is : (checked : Checked) (node element n : ℕ) (card : Card) → lists_measure checked (SetElements node element card) n ≡ lists_measure checked (Elements node element card) n
+unfolding lists_measure
+set_measure_is checked node element n card = refl
+
+pub cycle_measure_is : (checked : Checked) (node element n : ℕ) (card : Card) → lists_measure checked (CycleElements node element card) n ≡ lists_measure checked (Elements node element card) n
+unfolding lists_measure
+cycle_measure_is checked node element n card = refl
+
+-- from a container to its lists, and from a Set by way of its form
+pub sequence_down : (checked : Checked) (passed : IsChecked checked) (node element n : ℕ) (card : Card) → card_at checked.rules node ≡ Some card
+    → lists_measure checked (Elements node element card) n + 1 < node_measure checked node n
+sequence_down checked passed node element n card own = omega (arith, elements_down_all checked passed node element n card own)
+
+pub cycle_down : (checked : Checked) (passed : IsChecked checked) (node element n : ℕ) (card : Card) → card_at checked.rules node ≡ Some card
+    → lists_measure checked (CycleElements node element card) n + 1 < node_measure checked node n
+cycle_down checked passed node element n card own = omega (arith, elements_down_all checked passed node element n card own, cycle_measure_is checked node element n card)
+
+pub set_down : (checked : Checked) (passed : IsChecked checked) (node element n : ℕ) (card : Card) → card_at checked.rules node ≡ Some card
+    → lists_measure checked (SetElements node element card) n + 1 < set_measure checked node n
+set_down checked passed node element n card own =
+    omega (arith, elements_down_all checked passed node element n card own, set_measure_is checked node element n card)
+
+pub form_down : (checked : Checked) (node n : ℕ) → set_measure checked node n < node_measure checked node n
+form_down checked node n = omega arith
+
+-- the element of a container of a class, and the others behind it
+module _ (counts : Counts) (is : IsCounted counts) (k : Kind) (node element : ℕ) (card : Card) (h : HasKind counts.checked node (container k))
+    (child : slice_get (children_at counts.checked.rules node) 0 ≡ Some element) (reached : IsReachedIn counts node) (d m n : ℕ) (cut : Cut) (total : d + m ≡ n) (small : n ≤ 1000)
+    (first : 0 < number_of_node counts.checked cut.first d) (one : 0 < n → m ≡ 0 → admits card 1 ≡ true) where
+  abbrev checked : Checked
+  checked = counts.checked
+
+  by_element : cut.first ≡ element → split_measure checked (record { first = element; behind = Elements node element (after_one card) }) d m < lists_measure checked (Elements node element card) n
+  by_element same =
+      elements_down checked is.passed k node element card d m n h child (reached_within counts is element (reached_child counts is node 0 element reached child)) (reached_within counts is node reached)
+      total small (subst (λ (e : ℕ). 0 < number_of_node checked e d) same first) one
+
+  lists_split : record { first = element; behind = Elements node element (after_one card) } ≡ cut → split_measure counts.checked cut d m < lists_measure counts.checked (Elements node element card) n
+  lists_split same =
+      subst (λ (c : Cut). split_measure checked c d m < lists_measure checked (Elements node element card) n) same (by_element (sym (ap (λ (c : Cut). c.first) same)))
+
+  cycles_split : record { first = element; behind = Elements node element (after_one card) } ≡ cut
+      → split_measure counts.checked cut d m < lists_measure counts.checked (CycleElements node element card) n
+  cycles_split same = subst (λ (l : ℕ). split_measure checked cut d m < l) (sym (cycle_measure_is checked node element n card)) (lists_split same)
+
+  sets_split : record { first = element; behind = SetElements node element (after_one card) } ≡ cut
+      → split_measure counts.checked cut d m < lists_measure counts.checked (SetElements node element card) n
+  sets_split same =
+      subst (λ (c : Cut). split_measure checked c d m < lists_measure checked (SetElements node element card) n) same
+      (omega (
+        arith,
+        by_element (sym (ap (λ (c : Cut). c.first) same)),
+        set_measure_is checked node element m (after_one card),
+        set_measure_is checked node element n card,
+      ))
+
+-- the lists behind a first component that has all atoms
+behind_none : (counts : Counts) (cut : Cut) (tail : Tail) (m : ℕ) → cut.behind ≡ tail → m ≡ 0 → 0 < tail_number counts.checked cut.behind m → 0 < tail_number counts.checked tail 0
+behind_none counts cut tail m same none some = subst (λ (n : ℕ). 0 < tail_number counts.checked tail n) none (subst (λ (t : Tail). 0 < tail_number counts.checked t m) same some)
 
 -- where a list has a first component and others behind it, the measure of opening both is below that of opening the list
 pub lists_down : (counts : Counts) (is : IsCounted counts) (tail : Tail) (n d m : ℕ) (cut : Cut) → IsTail counts tail
@@ -503,10 +606,22 @@ lists_down counts is (Components node place) n d m cut stands cuts total small s
         subst (λ (c : Cut). split_measure counts.checked c d m < lists_measure counts.checked (Components node place) n) same
         (components_down counts.checked is.passed node place child d m n stands.prod at there total small first_here behind_here)
 lists_down counts is (Elements node element card) zero d m cut stands cuts total small some first behind = absurd (cc)
-lists_down counts is (Elements node element card) (suc k) d m cut stands cuts total small some first behind =
+lists_down counts is (Elements node element card) (suc n) d m cut stands cuts total small some first behind =
     let same : record { first = element; behind = Elements node element (after_one card) } ≡ cut = cc in
-    let there = reached_within counts is element (reached_child counts is node 0 element stands.reached stands.child) in
-    let first_here : 0 < number_of_node counts.checked element d = subst (λ (c : Cut). 0 < number_of_node counts.checked c.first d) (sym same) first in
-    let behind_here : 0 < tail_number counts.checked (Elements node element (after_one card)) m = subst (λ (c : Cut). 0 < tail_number counts.checked c.behind m) (sym same) behind in
-    subst (λ (c : Cut). split_measure counts.checked c d m < lists_measure counts.checked (Elements node element card) (suc k)) same
-    (elements_down counts.checked is.passed node element card d m (suc k) stands.sequence stands.child there (reached_within counts is node stands.reached) total small first_here behind_here some)
+    let k = elements_kind counts is node element card stands in
+    lists_split counts is k.0 node element card k.1 stands.child stands.reached d m (suc n) cut total small first
+    (λ more none. one_list counts.checked is.passed element card (suc n) (is_element counts is node element card stands) more some
+    (behind_none counts cut (Elements node element (after_one card)) m (ap (λ (c : Cut). c.behind) (sym same)) none behind)) same
+lists_down counts is (SetElements node element card) zero d m cut stands cuts total small some first behind = absurd (cc)
+lists_down counts is (SetElements node element card) (suc n) d m cut stands cuts total small some first behind =
+    let same : record { first = element; behind = SetElements node element (after_one card) } ≡ cut = cc in
+    let k = sets_kind counts is node element card stands in
+    sets_split counts is k.0 node element card k.1 stands.child stands.reached d m (suc n) cut total small first
+    (λ more none. one_set counts.checked is.passed element card (suc n) (is_set_element counts is node element card stands) more some
+    (behind_none counts cut (SetElements node element (after_one card)) m (ap (λ (c : Cut). c.behind) (sym same)) none behind)) same
+lists_down counts is (CycleElements node element card) zero d m cut stands cuts total small some first behind = absurd (cc)
+lists_down counts is (CycleElements node element card) (suc n) d m cut stands cuts total small some first behind =
+    let same : record { first = element; behind = Elements node element (after_one card) } ≡ cut = cc in
+    cycles_split counts is kind.Cycle node element card stands.cycle stands.child stands.reached d m (suc n) cut total small first
+    (λ more none. one_cycle counts.checked is.passed element card (suc n) (is_cycle_element counts is node element card stands) more some
+    (behind_none counts cut (Elements node element (after_one card)) m (ap (λ (c : Cut). c.behind) (sym same)) none behind)) same

@@ -1,38 +1,45 @@
 -- What is opened, by the listings of nodes and of tails.
-use Rattle.std.proofs.Common.{◌≡◌, ℕ, zero, suc, ◌+◌, ◌≤◌, ◌<◌, ◌^◌, Bool, true, false, not, List, [], ◌∷◌, ◌++◌, map, length, All, slice_get, Option, Some, None, refl, sym, ap, ◌∙◌, subst, inl, arith}
+use Rattle.std.proofs.Common.{◌≡◌, ◌⊎◌, ℕ, zero, suc, ◌+◌, ◌≤◌, ◌<◌, ◌^◌, Bool, true, false, not, List, [], ◌∷◌, ◌++◌, map, length, All, slice_get, Option, Some, None, refl, sym, ap, ◌∙◌, subst, inl, inr, true≢false, arith}
 use Rattle.std.specs.Prelude.{IfSome, IfNone, IsTrue, is_some}
 use Rattle.std.specs.Option.{option_and_then}
 use Rattle.std.proofs.lemmas.List.{append_assoc, append-nil, length-map}
-use Rattle.spec_syntax.specs.Rules.{symbol, all_nodes}
+use Rattle.spec_syntax.specs.Rules.{symbol}
 use Rattle.spec_syntax.specs.Nodes.{children_at, name_at, right_node, card_at}
 use Rattle.struct_model.specs.declared.tree.Form5.{Form5}
 use Rattle.struct_model.specs.Structure.{Structure, Eps, Atom, Named, Alt, Tup, part_list, parts_of, labels_of_parts}
-use Rattle.struct_model.specs.Membership.{is_supply}
+use Rattle.struct_model.specs.Bounded.{listing}
+use Rattle.struct_model.specs.Membership.{is_supply, is_of}
 use Rattle.struct_model.specs.declared.supplies.Supply.{Supply}
 use Rattle.struct_model.specs.SupplyView.{supply_labels, supply_universe, is_in_order}
 use Rattle.struct_model.proofs.SupplyLaws.{in_order_is}
-use Rattle.splits.specs.Splits.{Split, splits}
+use Rattle.splits.specs.Splits.{Split}
 use Rattle.splits.specs.WalkView.{Walk, split_into}
-use Rattle.splits.specs.Parts.{parts_of as parts_with, has_admitted}
-use Rattle.splits.proofs.SplitSupplies.{split_length}
 use Rattle.lists.specs.Enumeration.{IsIn}
-use Rattle.lists.proofs.Enumerated.{from_filter}
-use Rattle.lists.proofs.Tests.{all_at}
 use Rattle.spec_syntax.specs.Expression as expr
+use Rattle.spec_syntax.specs.Card.{is_within}
+use Rattle.spec_syntax.specs.declared.expr.Card.{Card}
+use Rattle.spec_syntax.specs.declared.statement.Universe.TheVariants.{Labelled}
+use Rattle.spec_syntax.specs.declared.expr.Kind.{Kind}
 use Rattle.spec_syntax.specs.declared.expr.Kind.TheVariants as kind
-use Rattle.spec_syntax.specs.Expression.{Expression, is_sequence_at_most}
-use Rattle.spec_syntax.specs.Nodes.{node_at, name_of, card_of}
+use Rattle.spec_syntax.specs.Grammar.{Grammar}
+use Rattle.spec_syntax.specs.Expression.{Expression}
+use Rattle.spec_syntax.specs.Nodes.{node_at, name_of}
 use Rattle.spec_syntax.proofs.RulesLemmas.{symbol-within}
-use Rattle.well_founded.specs.Checked.{Checked}
+use Rattle.well_founded.specs.NodeKinds.{container}
+use Rattle.well_founded.specs.Checked.{Checked, IsChecked, grammar}
 use Rattle.well_founded.proofs.CheckSteps.{no_undefined}
 use Rattle.well_founded.proofs.NodesLaws.{name_node_rule}
 use Rattle.well_founded.specs.declared.node.NodeKind.{NodeKind}
 use Rattle.well_founded.specs.declared.node.NodeKind.TheVariants as told
 use Rattle.listing_laws.specs.Lister.{list_epsilon, list_atom, alternatives, each_before, product, sequence, named}
-use Rattle.listing_laws.specs.NodeListing.{HasKind, IsListable, listing_on, rule_on}
+use Rattle.listing_laws.specs.NodeListing.{HasKind, listing_on, rule_on}
 use Rattle.listing_laws.proofs.Components.{list_back}
-use Rattle.listing_laws.proofs.KindLemmas.{no_other_kind, rule_is, sequence_is}
-use Rattle.listing_laws.proofs.NodeLemmas.{nodes_are_listed, kind_at, children_at_is}
+use Rattle.listing_laws.specs.LeastNodes.{set_lists_on}
+use Rattle.listing_laws.proofs.Containers.{no_list}
+use Rattle.listing_laws.proofs.KindLemmas.{rule_is, many_is}
+use Rattle.listing_laws.proofs.LeastNodes.{labelled_nodes_are_listed}
+use Rattle.listing_laws.proofs.Listed.{listing_sound}
+use Rattle.listing_laws.proofs.NodeLemmas.{nodes_are_listed, listing_is, kind_at}
 use Rattle.size_counts.specs.CountedView.{Counts, IsCounted}
 use Rattle.struct_walk.specs.declared.tail.Tail.{Tail}
 use Rattle.struct_walk.specs.declared.tail.Cut.{Cut}
@@ -41,12 +48,13 @@ use Rattle.struct_walk.specs.declared.later.Later.{Later}
 use Rattle.struct_walk.specs.declared.later.LaterLists as lists
 use Rattle.struct_walk.specs.declared.later.LaterLists.{LaterLists}
 use Rattle.struct_walk.specs.declared.later.Level.{Level}
-use Rattle.struct_walk.specs.Tails.{IsTail, tail_on, on_splits, cut_of, is_end, open_lengths}
+use Rattle.struct_walk.specs.Tails.{IsTail, tail_on, on_splits, cut_of, is_end, first_parts, HasFirst, open_lengths}
 use Rattle.struct_walk.specs.After.{structures_after, lists_after, parts_after, arguments_behind}
-use Rattle.struct_walk.specs.Stands.{IsAsked, IsCut, CanOpen, LevelStands, ListsStand, PartsStand}
+use Rattle.struct_walk.specs.Stands.{IsAsked, IsCut, IsSetOf, CanOpen, LevelStands, ListsStand, PartsStand}
 use Rattle.struct_walk.specs.Opened.{Opens, OpensLists, OpensSplit, HasNoArgument}
 use Rattle.struct_walk.proofs.Measures.{node_measure, lists_measure, split_measure, lists_down}
-use Rattle.struct_walk.proofs.TailLemmas.{listing_number, tail_length, cut_is, tail_cut, tail_end, last_splits, end_number, open_splits, can_open, lists_size}
+use Rattle.struct_walk.proofs.TailLemmas.{listing_number, tail_length, cut_is, tail_cut, tail_end, last_splits, last_first, first_total, first_there, end_number, open_splits, can_open, lists_size}
+use Rattle.struct_walk.proofs.TailListings.{cycle_labelled}
 
 -- ---- options
 
@@ -67,10 +75,6 @@ no_value P (Some x) b test is holds = let e : true ≡ false = test ∙ ap not i
 pub asked_supply : (counts : Counts) (supply : Supply) → IsAsked counts supply → is_supply counts.checked.universe (supply_labels supply) ≡ true
 asked_supply counts supply asked =
     subst (λ universe. is_supply universe (supply_labels supply) ≡ true) asked.universe (in_order_is supply asked.in_order)
-
--- what is said of the rules of a class
-pub are_listable : (counts : Counts) (supply : Supply) → IsCounted counts → IsAsked counts supply → IsListable counts.checked
-are_listable counts supply is asked = record { passed = is.passed; sequences = asked.sequences }
 
 -- ---- words
 
@@ -105,6 +109,18 @@ module _ {X : Type 0} (number : ℕ) (f : X → Structure) (inside : (x : X) →
   told_inside [] = refl
   told_inside (x ∷ xs) = λ i. inside x i ∷ told_inside xs i
 
+-- a structure of a container is none of a word
+container_told : (g : Grammar) (k : Kind) (e : Expression) (card : Card) (number : ℕ) (s : Structure) → is_of g (expr.Many k e card) s ≡ true → named number s ≡ Named number s
+container_told g k e card number (Tup form parts) h = refl
+container_told g k e card number (Named rule inside) h = refl
+container_told g k e card number (Alt argument inside) h = refl
+container_told g k e card number (Eps rule) h = absurd (true≢false (sym h ∙ no_list g k e card (Eps rule) refl))
+container_told g k e card number (Atom rule label) h = absurd (true≢false (sym h ∙ no_list g k e card (Atom rule label) refl))
+
+told_each : (number : ℕ) (ss : List Structure) → ((s : Structure) → IsIn s ss → named number s ≡ Named number s) → map (named number) ss ≡ map (Named number) ss
+told_each number [] each = refl
+told_each number (s ∷ ss) each = λ i. each s (inl refl) i ∷ told_each number ss (λ t there. each t (inr there)) i
+
 told_append : (number : ℕ) (xs ys : List Structure) → map (named number) xs ≡ map (Named number) xs → map (named number) ys ≡ map (Named number) ys
     → map (named number) (xs ++ ys) ≡ map (Named number) (xs ++ ys)
 told_append number [] ys first second = second
@@ -121,16 +137,7 @@ told_alternatives number k (ss ∷ sss) =
 abbrev AreInside : Checked → ℕ → ℕ → List ℕ → Type 0
 AreInside checked number node u = map (named number) (listing_on checked node u) ≡ map (Named number) (listing_on checked node u)
 
-module _ (checked : Checked) (ok : IsListable checked) where
-  -- no node is of another kind
-  pub none_is_other : (node : ℕ) (k : NodeKind) → HasKind checked node k → (k ≡ told.Epsilon → ⊥) → (k ≡ told.Atom → ⊥) → (k ≡ told.Rule → ⊥)
-      → (k ≡ told.Union → ⊥)
-      → (k ≡ told.Prod → ⊥) → (k ≡ told.Sequence → ⊥) → ⊥
-  none_is_other node k h epsilon atom rule union prod sequence =
-      let at = kind_at checked node k h in
-      no_other_kind at.0 (all_at is_sequence_at_most (all_nodes checked.rules) node at.0 ok.sequences at.1) (λ is. epsilon (sym at.2 ∙ is)) (λ is. atom (sym at.2 ∙ is))
-      (λ is. rule (sym at.2 ∙ is)) (λ is. union (sym at.2 ∙ is)) (λ is. prod (sym at.2 ∙ is)) (λ is. sequence (sym at.2 ∙ is))
-
+module _ (checked : Checked) (ok : IsChecked checked) where
   inside_again : (number node : ℕ) (u : List ℕ) (list : List Structure) → listing_on checked node u ≡ list
       → map (named number) list ≡ map (Named number) list → AreInside checked number node u
   inside_again number node u list is told = ap (map (named number)) is ∙ told ∙ ap (map (Named number)) (sym is)
@@ -140,23 +147,19 @@ module _ (checked : Checked) (ok : IsListable checked) where
       let at = kind_at checked node told.Rule h in
       let name = rule_is at.0 at.2 in
       let there : node_at checked.rules node ≡ Some (expr.Name name.0) = at.1 ∙ ap Some name.1 in
-      let rule = name_node_rule checked.rules node name.0 (no_undefined checked.rules None ok.passed.well_founded.named) there in
+      let rule = name_node_rule checked.rules node name.0 (no_undefined checked.rules None ok.well_founded.named) there in
       let found : option_and_then (symbol checked.rules) (name_at checked.rules node) ≡ Some rule.0 =
       ap (λ (e : Option Expression). option_and_then (symbol checked.rules) (option_and_then name_of e)) there ∙ rule.1 in
-      inside_again number node u (map (named rule.0) (listing_on checked (right_node checked.rules rule.0) u)) (nodes_are_listed.name checked node rule.0 u ok.passed supplied h found)
+      inside_again number node u (map (named rule.0) (listing_on checked (right_node checked.rules rule.0) u)) (nodes_are_listed.name checked node rule.0 u ok supplied h found)
       (told_inside number (named rule.0) (twice number rule.0 (symbol-within checked.rules name.0 rule.0 rule.1).0) (listing_on checked (right_node checked.rules rule.0) u))
 
-  sequence_inside : (number node : ℕ) (u : List ℕ) → is_supply checked.universe u ≡ true → HasKind checked node told.Sequence
-      → AreInside checked number node u
-  sequence_inside number node u supplied h =
-      let at = kind_at checked node told.Sequence h in
-      let is = sequence_is at.0 at.2 in
-      let there : node_at checked.rules node ≡ Some (expr.Many kind.Sequence is.0 is.1) = at.1 ∙ ap Some is.2 in
-      let child : slice_get (children_at checked.rules node) 0 ≡ Some (node + 1) =
-      ap (λ (ms : List ℕ). slice_get ms 0) (children_at_is checked.rules node (expr.Many kind.Sequence is.0 is.1) there) in
-      let card : card_at checked.rules node ≡ Some is.1 = ap (option_and_then card_of) there in
-      let listed = nodes_are_listed.sequence checked node (node + 1) is.1 u ok.passed supplied h child card in
-      inside_again number node u _ listed (told_inside number sequence (λ ss. refl) _)
+  container_inside : (k : Kind) (number node : ℕ) (u : List ℕ) → HasKind checked node (container k) → AreInside checked number node u
+  container_inside k number node u h =
+      let at = kind_at checked node (container k) h in
+      let is = many_is k at.0 at.2 in
+      inside_again number node u (listing (grammar checked) (expr.Many k is.0 is.1) u) (listing_is checked node (expr.Many k is.0 is.1) u (at.1 ∙ ap Some is.2))
+      (told_each number (listing (grammar checked) (expr.Many k is.0 is.1) u) (λ s there.
+      container_told (grammar checked) k is.0 is.1 number s (listing_sound (grammar checked) (expr.Many k is.0 is.1) u s there).0))
 
   -- structures of a right side that is no word are told inside the rule
   pub right_inside : (k : NodeKind) (number node : ℕ) (u : List ℕ) → is_supply checked.universe u ≡ true → HasKind checked node k
@@ -167,23 +170,20 @@ module _ (checked : Checked) (ok : IsListable checked) where
   right_inside told.Rule number node u supplied h epsilon atom = name_inside number node u supplied h
   right_inside told.Union number node u supplied h epsilon atom =
       let arguments : List (List Structure) = map (λ child. listing_on checked child u) (children_at checked.rules node) in
-      inside_again number node u (alternatives 1 arguments) (nodes_are_listed.union checked node u ok.passed supplied h) (told_alternatives number 1 arguments)
+      inside_again number node u (alternatives 1 arguments) (nodes_are_listed.union checked node u ok supplied h) (told_alternatives number 1 arguments)
   right_inside told.Prod number node u supplied h epsilon atom =
-      inside_again number node u _ (nodes_are_listed.prod checked node u ok.passed supplied h) (told_inside number product (λ ss. refl) _)
-  right_inside told.Sequence number node u supplied h epsilon atom = sequence_inside number node u supplied h
-  right_inside told.Set number node u supplied h epsilon atom =
-      absurd (none_is_other node told.Set h (λ e. cc) (λ e. cc) (λ e. cc) (λ e. cc) (λ e. cc) (λ e. cc))
-  right_inside told.PowerSet number node u supplied h epsilon atom =
-      absurd (none_is_other node told.PowerSet h (λ e. cc) (λ e. cc) (λ e. cc) (λ e. cc) (λ e. cc) (λ e. cc))
-  right_inside told.Cycle number node u supplied h epsilon atom =
-      absurd (none_is_other node told.Cycle h (λ e. cc) (λ e. cc) (λ e. cc) (λ e. cc) (λ e. cc) (λ e. cc))
+      inside_again number node u _ (nodes_are_listed.prod checked node u ok supplied h) (told_inside number product (λ ss. refl) _)
+  right_inside told.Sequence number node u supplied h epsilon atom = container_inside kind.Sequence number node u h
+  right_inside told.Set number node u supplied h epsilon atom = container_inside kind.Set number node u h
+  right_inside told.PowerSet number node u supplied h epsilon atom = container_inside kind.PowerSet number node u h
+  right_inside told.Cycle number node u supplied h epsilon atom = container_inside kind.Cycle number node u h
 
   -- a rule lists what its right side does, each inside the rule
   pub rule_inside : (k : NodeKind) (number : ℕ) (u : List ℕ) → is_supply checked.universe u ≡ true → 1 ≤ number → number ≤ length checked.rules
       → HasKind checked (right_node checked.rules number) k → (k ≡ told.Epsilon → ⊥) → (k ≡ told.Atom → ⊥)
       → rule_on checked number u ≡ map (Named number) (listing_on checked (right_node checked.rules number) u)
   rule_inside k number u supplied low high h epsilon atom =
-      nodes_are_listed.rule checked number u ok.passed supplied low high ∙ right_inside k number (right_node checked.rules number) u supplied h epsilon atom
+      nodes_are_listed.rule checked number u ok supplied low high ∙ right_inside k number (right_node checked.rules number) u supplied h epsilon atom
 
   -- and on a supply of which the rule has a structure the right side has one
   pub right_some : (number : ℕ) (u : List ℕ) → is_supply checked.universe u ≡ true → 1 ≤ number → number ≤ length checked.rules
@@ -193,7 +193,7 @@ module _ (checked : Checked) (ok : IsListable checked) where
       omega (
         arith,
         some,
-        ap length (nodes_are_listed.rule checked number u ok.passed supplied low high),
+        ap length (nodes_are_listed.rule checked number u ok supplied low high),
         length-map (listing_on checked (right_node checked.rules number) u) (named number),
       )
 
@@ -202,29 +202,52 @@ module _ (checked : Checked) (ok : IsListable checked) where
       → 0 < length (rule_on checked number u)
       → HasKind checked (right_node checked.rules number) told.Epsilon → rule_on checked number u ≡ Eps number ∷ []
   rule_epsilon number u supplied low high some h =
-      let listed = nodes_are_listed.epsilon checked (right_node checked.rules number) u ok.passed supplied h in
-      nodes_are_listed.rule checked number u ok.passed supplied low high
+      let listed = nodes_are_listed.epsilon checked (right_node checked.rules number) u ok supplied h in
+      nodes_are_listed.rule checked number u ok supplied low high
       ∙ ap (map (named number)) (listed ∙ epsilon_alone u (subst (λ (ss : List Structure). 0 < length ss) listed (right_some number u supplied low high some)))
 
   pub rule_label : (number : ℕ) (u : List ℕ) → is_supply checked.universe u ≡ true → 1 ≤ number → number ≤ length checked.rules
       → 0 < length (rule_on checked number u)
       → HasKind checked (right_node checked.rules number) told.Atom → length u ≡ 1
   rule_label number u supplied low high some h =
-      atom_label u (subst (λ (ss : List Structure). 0 < length ss) (nodes_are_listed.atom checked (right_node checked.rules number) u ok.passed supplied h)
+      atom_label u (subst (λ (ss : List Structure). 0 < length ss) (nodes_are_listed.atom checked (right_node checked.rules number) u ok supplied h)
       (right_some number u supplied low high some))
 
   pub rule_atom : (number label : ℕ) (u : List ℕ) → is_supply checked.universe u ≡ true → 1 ≤ number → number ≤ length checked.rules → u ≡ label ∷ []
       → HasKind checked (right_node checked.rules number) told.Atom → rule_on checked number u ≡ Atom number label ∷ []
   rule_atom number label u supplied low high alone h =
-      nodes_are_listed.rule checked number u ok.passed supplied low high
-      ∙ ap (map (named number)) (nodes_are_listed.atom checked (right_node checked.rules number) u ok.passed supplied h ∙ ap list_atom alone)
+      nodes_are_listed.rule checked number u ok supplied low high
+      ∙ ap (map (named number)) (nodes_are_listed.atom checked (right_node checked.rules number) u ok supplied h ∙ ap list_atom alone)
 
   -- a name lists what its rule does
   pub name_is_rule : (node number : ℕ) (u : List ℕ) → is_supply checked.universe u ≡ true → HasKind checked node told.Rule → 1 ≤ number
       → number ≤ length checked.rules
       → option_and_then (symbol checked.rules) (name_at checked.rules node) ≡ Some number → listing_on checked node u ≡ rule_on checked number u
   name_is_rule node number u supplied h low high found =
-      nodes_are_listed.name checked node number u ok.passed supplied h found ∙ sym (nodes_are_listed.rule checked number u ok.passed supplied low high)
+      nodes_are_listed.name checked node number u ok supplied h found ∙ sym (nodes_are_listed.rule checked number u ok supplied low high)
+
+-- a Set of whichever form is its lists of components in that form
+pub set_listed : (counts : Counts) (is : IsCounted counts) (supply : Supply) (node element : ℕ) (card : Card) (f : Form5) → IsAsked counts supply → counts.checked.universe ≡ Labelled
+    → IsSetOf counts.checked node f → slice_get (children_at counts.checked.rules node) 0 ≡ Some element → card_at counts.checked.rules node ≡ Some card
+    → listing_on counts.checked node (supply_labels supply) ≡ map (λ ss. Tup f (parts_of ss)) (set_lists_on counts.checked element card (supply_labels supply))
+set_listed counts is supply node element card f asked universe (inl (h, same)) child own =
+    labelled_nodes_are_listed.set_node counts.checked node element card (supply_labels supply) is.passed universe (asked_supply counts supply asked) h child own
+    ∙ ap (λ (own_form : Form5). map (λ ss. Tup own_form (parts_of ss)) (set_lists_on counts.checked element card (supply_labels supply))) (sym same)
+set_listed counts is supply node element card f asked universe (inr (h, same)) child own =
+    labelled_nodes_are_listed.power_set_node counts.checked node element card (supply_labels supply) is.passed universe (asked_supply counts supply asked) h child own
+    ∙ ap (λ (own_form : Form5). map (λ ss. Tup own_form (parts_of ss)) (set_lists_on counts.checked element card (supply_labels supply))) (sym same)
+
+pub set_kinds : (checked : Checked) (node : ℕ) (f : Form5) → IsSetOf checked node f → HasKind checked node told.Set ⊎ HasKind checked node told.PowerSet
+set_kinds checked node f (inl (h, same)) = inl h
+set_kinds checked node f (inr (h, same)) = inr h
+
+-- a bound that is the container's own admits no more
+pub own_below : (counts : Counts) (node : ℕ) (card own : Card) (c : ℕ) → card_at counts.checked.rules node ≡ Some card → card_at counts.checked.rules node ≡ Some own
+    → is_within card.high c ≡ true → is_within own.high c ≡ true
+own_below counts node card own c first second within = let same : card ≡ own = options (sym first ∙ second) in subst (λ (b : Card). is_within b.high c ≡ true) same within
+  where
+    options : Some card ≡ Some own → card ≡ own
+    options e = cc
 
 -- where the listing is made of lists or of structures, there are such
 pub made_some : {X : Type 0} (f : X → Structure) (xs : List X) (all : List Structure) → all ≡ map f xs → 0 < length all → 0 < length xs
@@ -278,7 +301,9 @@ module _ (counts : Counts) (is : IsCounted counts) (tail : Tail) (supply : Suppl
 
     module _ (ends : is_end counts.checked cut.behind ≡ true) where
       pub last_whole : map (λ s. s ∷ []) (listing_on counts.checked cut.first (supply_labels supply)) ≡ tail_on counts.checked tail (supply_labels supply)
-      last_whole = sym (tail_cut counts is tail labels cut stands supplied cuts some ∙ last_splits counts is cut labels is_cut ends)
+      last_whole =
+          sym (tail_cut counts is tail labels cut stands supplied cuts some ∙ ap (on_splits counts.checked cut) (last_first counts is tail (length labels) cut labels cuts ends)
+          ∙ last_splits counts is cut labels is_cut ends)
 
       pub last_some : 0 < length (listing_on counts.checked cut.first (supply_labels supply))
       last_some =
@@ -295,20 +320,24 @@ module _ (counts : Counts) (is : IsCounted counts) (tail : Tail) (supply : Suppl
     -- ---- splits
 
     abbrev to_come : List Split
-    to_come = parts_with (open_lengths counts.checked cut (length labels)) labels
+    to_come = first_parts tail (open_lengths counts.checked cut (length labels)) labels
 
     by_open_splits : tail_on counts.checked tail labels ≡ on_splits counts.checked cut to_come
-    by_open_splits = tail_cut counts is tail labels cut stands supplied cuts some ∙ sym (open_splits counts is cut labels is_cut supplied)
+    by_open_splits = tail_cut counts is tail labels cut stands supplied cuts some ∙ sym (open_splits counts is tail cut labels is_cut supplied)
+
+    -- where the first component has the least label there is one
+    pub has_first : HasFirst tail supply
+    has_first = first_there counts is tail supply (length labels) cut (asked.universe) refl stands cuts
 
     -- there is a split
-    pub some_split : parts_with (open_lengths counts.checked cut (length (supply_labels supply))) (supply_labels supply) ≡ [] → ⊥
+    pub some_split : first_parts tail (open_lengths counts.checked cut (length (supply_labels supply))) (supply_labels supply) ≡ [] → ⊥
     some_split none =
         let nothing : tail_on counts.checked tail labels ≡ [] = by_open_splits ∙ ap (on_splits counts.checked cut) none in
         omega (arith, some, ap length nothing)
 
-    module _ (split : Split) (left : List Split) (whole : parts_with (open_lengths counts.checked cut (length (supply_labels supply))) (supply_labels supply) ≡ split ∷ left) where
+    module _ (split : Split) (left : List Split) (whole : first_parts tail (open_lengths counts.checked cut (length (supply_labels supply))) (supply_labels supply) ≡ split ∷ left) where
       all_open : All (CanOpen counts cut) (split ∷ left)
-      all_open = subst (All (CanOpen counts cut)) whole (can_open counts is cut labels is_cut supplied asked.within)
+      all_open = subst (All (CanOpen counts cut)) whole (can_open counts is tail cut labels is_cut supplied asked.within)
 
       first_opens : CanOpen counts cut split
       first_opens = all_open 0 split (omega arith)
@@ -318,8 +347,7 @@ module _ (counts : Counts) (is : IsCounted counts) (tail : Tail) (supply : Suppl
 
       split_total : length split.part + length split.rest ≡ length (supply_labels supply)
       split_total =
-          split_length labels split
-          (from_filter (has_admitted (open_lengths counts.checked cut (length labels))) split (splits labels) (subst (λ (ss : List Split). IsIn split ss) (sym whole) (inl refl))).0
+          first_total counts is tail (open_lengths counts.checked cut (length labels)) labels split (subst (λ (ss : List Split). IsIn split ss) (sym whole) (inl refl))
 
       -- the first of all lists, and those that come later
       first_list : (first : Structure) (firsts : List Structure) (added : List Structure) (others : List (List Structure))
@@ -334,15 +362,15 @@ module _ (counts : Counts) (is : IsCounted counts) (tail : Tail) (supply : Suppl
           ∙ ap (λ (ss : List (List Structure)). (first ∷ added) ∷ map (λ rest. first ∷ rest) others ++ (each_before firsts ss ++ on_splits counts.checked cut left)) (sym each_other)
 
     module _ (part rest : Supply) (left : List Split)
-        (whole : parts_with (open_lengths counts.checked cut (length (supply_labels supply))) (supply_labels supply) ≡ split_into part rest ∷ left) where
+        (whole : first_parts tail (open_lengths counts.checked cut (length (supply_labels supply))) (supply_labels supply) ≡ split_into part rest ∷ left) where
       opening : CanOpen counts cut (split_into part rest)
       opening = first_opens (split_into part rest) left whole
 
       pub part_asked : IsTrue (is_in_order part) → supply_universe part ≡ supply_universe supply → IsAsked counts part
-      part_asked in_order universe = record { sequences = asked.sequences; in_order = in_order; universe = universe ∙ asked.universe; within = opening.part }
+      part_asked in_order universe = record { in_order = in_order; universe = universe ∙ asked.universe; within = opening.part }
 
       pub rest_asked : IsTrue (is_in_order rest) → supply_universe rest ≡ supply_universe supply → IsAsked counts rest
-      rest_asked in_order universe = record { sequences = asked.sequences; in_order = in_order; universe = universe ∙ asked.universe; within = opening.rest }
+      rest_asked in_order universe = record { in_order = in_order; universe = universe ∙ asked.universe; within = opening.rest }
 
       pub part_some : 0 < length (listing_on counts.checked cut.first (supply_labels part))
       part_some = opening.first

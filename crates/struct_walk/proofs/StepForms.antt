@@ -19,9 +19,10 @@ use Rattle.struct_walk.specs.declared.later.Later as later
 use Rattle.struct_walk.specs.declared.later.Later.{Later}
 use Rattle.struct_walk.specs.declared.later.LaterLists as lists
 use Rattle.struct_walk.specs.declared.later.LaterLists.{LaterLists}
-use Rattle.struct_walk.specs.After.{arguments_behind, structures_after, lists_after}
-use Rattle.struct_walk.specs.Stands.{CanGoOn, Stands, ListsStand, AreSmall, AreSmallLists}
-use Rattle.struct_walk.specs.Opened.{Opens, Next, ListsStepOn, ListsEnd}
+use Rattle.struct_walk.specs.declared.later.LaterSorted.{LaterSorted}
+use Rattle.struct_walk.specs.After.{arguments_behind, structures_after, lists_after, sorted_after}
+use Rattle.struct_walk.specs.Stands.{CanGoOn, Stands, ListsStand, SortedStand, AreSmall, AreSmallLists}
+use Rattle.struct_walk.specs.Opened.{Opens, Next, NextSorted, ListsStepOn, ListsEnd, SortedStepOn, SortedEnd}
 
 -- each of these structures has fewer than 2^32 atoms, where each in a form has so many
 small_within : (form : Structure → Structure) (ss : List Structure) → ((s : Structure) → size (form s) ≡ size s) → AreSmall (map form ss) → AreSmall ss
@@ -41,17 +42,20 @@ pub named_after : (checked : Checked) (later : Later) (number : ℕ) (s : Struct
 named_after checked later.Nothing number s = refl
 named_after checked (later.Argument' node supply p inner) number s = refl
 named_after checked (later.Components' p inner) number s = refl
+named_after checked (later.Sorted' p inner) number s = refl
 
 module _ (counts : Counts) (number : ℕ) where
   pub named_stands : (later : Later) (s : Structure) → Stands counts later s → Stands counts later (Named number s)
   named_stands later.Nothing s stands = stands
   named_stands (later.Argument' node supply p inner) s stands = stands
   named_stands (later.Components' p inner) s stands = stands
+  named_stands (later.Sorted' p inner) s stands = stands
 
   stands_inside : (later : Later) (s : Structure) → Stands counts later (Named number s) → Stands counts later s
   stands_inside later.Nothing s stands = stands
   stands_inside (later.Argument' node supply p inner) s stands = stands
   stands_inside (later.Components' p inner) s stands = stands
+  stands_inside (later.Sorted' p inner) s stands = stands
 
   -- what a step needs, for the step within the rule
   pub within_rule : (later : Later) (whole inside now : Structure) → Named number inside ≡ whole → now ≡ inside → Stands counts later whole
@@ -90,11 +94,13 @@ epsilon_after : (checked : Checked) (later : Later) (rule : ℕ) → structures_
 epsilon_after checked later.Nothing rule = refl
 epsilon_after checked (later.Argument' node supply p inner) rule = refl
 epsilon_after checked (later.Components' p inner) rule = refl
+epsilon_after checked (later.Sorted' p inner) rule = refl
 
 atom_after : (checked : Checked) (later : Later) (rule label : ℕ) → structures_after checked later (Atom rule label) ≡ []
 atom_after checked later.Nothing rule label = refl
 atom_after checked (later.Argument' node supply p inner) rule label = refl
 atom_after checked (later.Components' p inner) rule label = refl
+atom_after checked (later.Sorted' p inner) rule label = refl
 
 pub word_after : (checked : Checked) (later : Later) (at : Shape) (s : Structure) → structure_of at ≡ s
     → ((rule : ℕ) × at ≡ shape.Eps rule) ⊎ ((rule : ℕ) × (label : ℕ) × at ≡ shape.Atom rule label) → structures_after checked later s ≡ []
@@ -160,3 +166,43 @@ ended counts whole place ss is stand = record {
       sym (take-append-drop place ss) ∙ ap (λ rest. take place ss ++ rest) none ∙ append-nil (take place ss);
   none = ap (λ (w : LaterLists). lists_after counts.checked w (drop place ss)) is;
 }
+
+-- ---- sorted components
+
+module _ (counts : Counts) (whole : Later) (p : _) (inner now : LaterSorted) (is : whole ≡ later.Sorted' p inner) (same : now ≡ inner) (form : Form5) (cs : List Structure) where
+  now_sorted : whole ≡ later.Sorted' p now
+  now_sorted = is ∙ ap (λ (l : LaterSorted). later.Sorted' p l) (sym same)
+
+  sorted_are : structures_after counts.checked whole (Tup form (parts_of cs)) ≡ map (λ ss. Tup form (parts_of ss)) (sorted_after counts.checked now cs)
+  sorted_are =
+      ap (λ (w : Later). structures_after counts.checked w (Tup form (parts_of cs))) now_sorted
+      ∙ ap (λ (ss : List Structure). map (λ ss. Tup form (parts_of ss)) (sorted_after counts.checked now ss)) (list_back cs)
+
+  pub set_small : AreSmall (structures_after counts.checked whole (Tup form (parts_of cs))) → AreSmallLists (sorted_after counts.checked now cs)
+  set_small small = small_parts form (sorted_after counts.checked now cs) (subst (λ ss. AreSmall ss) sorted_are small)
+
+  pub set_stands : Stands counts whole (Tup form (parts_of cs)) → SortedStand counts now cs
+  set_stands stands =
+      subst (λ (ss : List Structure). SortedStand counts now ss) (list_back cs) (subst (λ (w : Later). Stands counts w (Tup form (parts_of cs))) now_sorted stands)
+
+  pub set_next : (q : _) (new : LaterSorted) (after : List Structure) (stepped : Bool) → NextSorted counts (sorted_after counts.checked now cs) new after stepped
+      → Next counts (structures_after counts.checked whole (Tup form (parts_of cs))) (later.Sorted' q new) (Tup form (parts_of after)) stepped
+  set_next q new after true steps = (
+    sorted_are
+        ∙ ap (map (λ ss. Tup form (parts_of ss))) steps.0
+        ∙ ap (λ (ss : List Structure). Tup form (parts_of after) ∷ map (λ ss. Tup form (parts_of ss)) (sorted_after counts.checked new ss)) (sym (list_back after)),
+    subst (λ (ss : List Structure). SortedStand counts new ss) (sym (list_back after)) steps.1,
+  )
+  set_next q new after false none = sorted_are ∙ ap (map (λ ss. Tup form (parts_of ss))) none
+
+-- all components from the first one on
+module _ (counts : Counts) (old : LaterSorted) (held before : List Structure) (same : held ≡ before) (new : LaterSorted) (after : List Structure) where
+  pub set_steps : SortedStepOn counts 0 old held new after → NextSorted counts (sorted_after counts.checked old before) new after true
+  set_steps steps = (ap (sorted_after counts.checked old) (sym same) ∙ steps.next, steps.stands)
+
+  pub set_ends : SortedEnd counts 0 old held after → sorted_after counts.checked old before ≡ []
+  set_ends ends = ap (sorted_after counts.checked old) (sym same) ∙ ends.none
+
+  -- they have few atoms
+  pub set_few : AreSmallLists (sorted_after counts.checked old before) → SortedStepOn counts 0 old held new after → length (labels_of_parts (parts_of after)) < 2 ^ 32
+  set_few small steps = small after (subst (λ (lists : List (List Structure)). IsIn after lists) (sym (set_steps steps).0) (inl refl))

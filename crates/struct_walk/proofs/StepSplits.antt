@@ -41,10 +41,10 @@ module _ (counts : Counts) (level : Level) (stands : LevelStands counts level) (
   next_can = holds_first (CanOpen counts level.cut) (split_into part rest) walk.left all_can
 
   pub part_asked : IsTrue (is_in_order part) → supply_universe part ≡ level.splits.universe → IsAsked counts part
-  part_asked in_order universe = record { sequences = stands.asked.sequences; in_order = in_order; universe = universe ∙ stands.universe; within = next_can.part }
+  part_asked in_order universe = record { in_order = in_order; universe = universe ∙ stands.universe; within = next_can.part }
 
   pub rest_asked : IsTrue (is_in_order rest) → supply_universe rest ≡ level.splits.universe → IsAsked counts rest
-  rest_asked in_order universe = record { sequences = stands.asked.sequences; in_order = in_order; universe = universe ∙ stands.universe; within = next_can.rest }
+  rest_asked in_order universe = record { in_order = in_order; universe = universe ∙ stands.universe; within = next_can.rest }
 
   pub next_parts : (copied : Supply) (before after : List Structure) (first : Later) (others : LaterLists) → copied ≡ rest → walk.universe ≡ level.splits.universe → IsAsked counts rest
       → OpensSplit counts (listing_on counts.checked level.cut.first (supply_labels part)) (tail_on counts.checked level.cut.behind (supply_labels rest)) before after (first, others)

@@ -1,22 +1,29 @@
--- Whether a Sequence with a bound has lists of a size, by the numbers of components that the bound admits.
-use Rattle.std.proofs.Common.{◌≡◌, ℕ, ◌≤◌, ◌<◌, inl, inr, true, ◌&&◌, nat_le, [], Some, None, Option, ap, sym, ◌∙◌, subst, arith, slice_get}
+-- Whether a container with a bound has lists of a size, by the numbers of components that the bound admits.
+use Rattle.std.proofs.Common.{◌≡◌, ℕ, ◌≤◌, ◌<◌, inl, inr, true, ◌&&◌, nat_le, List, [], length, Some, None, Option, ap, sym, ◌∙◌, subst, arith, slice_get}
 use Rattle.std.specs.Option.{option_map_or}
 use Rattle.std.proofs.lemmas.Bool.{cases_lt}
 use Rattle.std.proofs.lemmas.Bool.Decides.{nat_tests}
 use Rattle.spec_syntax.specs.declared.expr.Card.{Card}
+use Rattle.spec_syntax.specs.declared.expr.Kind.TheVariants as kind
 use Rattle.spec_syntax.specs.Card.{is_within, admits}
 use Rattle.spec_syntax.specs.Expression.{Expression}
 use Rattle.spec_syntax.specs.Nodes.{arguments_of}
+use Rattle.struct_model.specs.Structure.{Structure}
 use Rattle.struct_model.specs.Membership.{supply}
+use Rattle.struct_model.specs.Bounded.{number}
 use Rattle.well_founded.specs.Checked.{Checked, IsChecked, grammar}
 use Rattle.listing_laws.specs.Numbers.{exactly}
-use Rattle.listing_laws.specs.NodeListing.{IsElement, number_of_lists}
-use Rattle.listing_laws.proofs.NodeLemmas.{SequenceNode, element_node, supplied, nodes_are_counted}
-use Rattle.size_counts.specs.CountedView.{Counts, IsCounted, lists_of}
+use Rattle.listing_laws.specs.NodeListing.{lists_on, number_of_lists}
+use Rattle.listing_laws.specs.LeastNodes.{set_lists_on, number_of_sets}
+use Rattle.listing_laws.specs.SortedNodes.{IsContained}
+use Rattle.listing_laws.proofs.LeastNodes.{labelled_nodes_are_counted}
+use Rattle.listing_laws.proofs.NodeLemmas.{ContainerNode, container_node, supplied, nodes_are_counted}
+use Rattle.size_counts.specs.CountedView.{Counts, IsCounted, lists_of, sets_of, with_exactly}
 use Rattle.size_counts.specs.Numbers.{list_number, most_components}
-use Rattle.struct_walk.specs.declared.tail.Tail.TheVariants.{Elements}
-use Rattle.struct_walk.specs.Tails.{AreElements, tail_number}
-use Rattle.struct_walk.proofs.TailListings.{HasLists, has_lists, lists_number}
+use Rattle.struct_walk.specs.declared.tail.Tail.TheVariants.{Elements, SetElements}
+use Rattle.struct_walk.specs.Tails.{AreElements, AreSetElements, tail_number}
+use Rattle.struct_walk.proofs.TailLemmas.{elements_kind, is_element, is_set_element}
+use Rattle.struct_walk.proofs.TailListings.{cycle_labelled, has_lists, lists_number, has_sets, sets_number, power_sets_number}
 
 -- ---- bounds
 
@@ -43,51 +50,112 @@ below_most card c n h small = by card.high h
     by None h = omega arith
     by (Some most) h = grind (arith, nat_tests)
 
-module _ (counts : Counts) (is : IsCounted counts) (node element : ℕ) (card : Card) (h : AreElements counts node element card) where
+-- lists by any bound, as many of so many components as are told
+record AreTold (n : ℕ) (on : Card → List ℕ → List (List Structure)) (u : List ℕ) (told : ℕ → ℕ) : Type 0 where
+  has : (card : Card) → 0 < length (on card u) → (count : ℕ) × (admits card count ≡ true) × ((other : Card) → admits other count ≡ true → 0 < length (on other u))
+  tells : (c : ℕ) → told c ≡ length (on (exactly c) u)
+  few : (c : ℕ) → n < c → length (on (exactly c) u) ≡ 0
+
+-- there are lists of a number of components that the bound admits, and of no more than there are atoms
+pub record HasCount (told : ℕ → ℕ) (card : Card) (n : ℕ) : Type 0 where
+  pub count : ℕ
+  pub low : card.low ≤ count
+  pub high : count ≤ most_components card n
+  pub some : 0 < told count
+
+module _ (n : ℕ) (on : Card → List ℕ → List (List Structure)) (u : List ℕ) (told : ℕ → ℕ) (are : AreTold n on u told) (card : Card) where
+  found_count : 0 < length (on card u) → HasCount told card n
+  found_count some =
+      let found = are.has card some in
+      let lists : 0 < length (on (exactly found.0) u) = found.2 (exactly found.0) (admits_own found.0) in
+      record {
+        count = found.0;
+        low = at_least_low card found.0 found.1;
+        high = below_most card found.0 n found.1 (not_more found.0 lists);
+        some = omega (arith, lists, are.tells found.0);
+      }
+    where
+      not_more : (c : ℕ) → 0 < length (on (exactly c) u) → c ≤ n
+      not_more c lists = elim (cases_lt n c) [ inl less ↦ absurd (omega (arith, lists, are.few c less)) | inr within ↦ within ]
+
+  -- where there are lists of one such number, there are lists
+  found_lists : (c : ℕ) → card.low ≤ c → c ≤ most_components card n → 0 < told c → 0 < length (on card u)
+  found_lists c low high some =
+      let lists : 0 < length (on (exactly c) u) = omega (arith, some, are.tells c) in
+      let found = are.has (exactly c) lists in
+      found.2 card (subst (λ k. admits card k ≡ true) (sym (own_alone c found.0 found.1)) (admits_between card c n low high))
+
+module _ (counts : Counts) (is : IsCounted counts) (node element : ℕ) (card : Card) where
   abbrev checked : Checked
   checked = counts.checked
 
   abbrev passed : IsChecked counts.checked
   passed = is.passed
 
-  abbrev is_element : IsElement counts.checked element
-  is_element = record { node = node; sequence = h.sequence; child = h.child }
+  abbrev atoms : ℕ → List ℕ
+  atoms n = supply counts.checked.universe n
 
-  lists_are : (c n : ℕ) → lists_of counts node c n ≡ number_of_lists checked element c n
-  lists_are c n =
-      let there : SequenceNode checked node element = element_node checked element is_element in
-      ap (λ o. option_map_or (λ (e : Expression). list_number (grammar checked) e c n) (slice_get (option_map_or arguments_of o []) 0) 0) there.at
-      ∙ lists_number checked passed element is_element c n
+  -- ---- a Sequence or a Cycle
 
-  -- there are lists of a number of components that the bound admits, and of no more than there are atoms
-  pub record HasCount (n : ℕ) : Type 0 where
-    pub count : ℕ
-    pub low : card.low ≤ count
-    pub high : count ≤ most_components card n
-    pub some : 0 < lists_of counts node count n
+  module _ (h : AreElements counts node element card) where
+    of : IsContained counts.checked element
+    of = is_element counts is node element card h
 
-  pub some_count : (n : ℕ) → 0 < tail_number counts.checked (Elements node element card) n → HasCount n
-  some_count n some =
-      let found : HasLists checked passed element is_element card (supply checked.universe n)
-      = has_lists checked passed element is_element card (supply checked.universe n) (supplied checked n) some in
-      let lists : 0 < number_of_lists checked element found.count n = found.each (exactly found.count) (admits_own found.count) in
-      record {
-        count = found.count;
-        low = at_least_low card found.count found.admitted;
-        high = below_most card found.count n found.admitted (not_more found.count lists);
-        some = omega (arith, lists, lists_are found.count n);
-      }
-    where
-      not_more : (c : ℕ) → 0 < number_of_lists checked element c n → c ≤ n
-      not_more c lists = elim (cases_lt n c) [
-        | inl less ↦ absurd (omega (arith, lists, nodes_are_counted.few checked element c n passed is_element less))
-        | inr within ↦ within
-      ]
+    lists_are : (c n : ℕ) → lists_of counts node c n ≡ number_of_lists checked element c n
+    lists_are c n =
+        let k = elements_kind counts is node element card h in
+        let there : ContainerNode checked k.0 node element = container_node checked k.0 node element k.1 h.child in
+        ap (λ o. option_map_or (λ (e : Expression). list_number (grammar checked) e c n) (slice_get (option_map_or arguments_of o []) 0) 0) there.at
+        ∙ lists_number checked passed element (record { node = node; kind = k.0; is = k.1; child = h.child }) c n
 
-  -- where there are lists of one such number, there are lists
-  pub count_some : (c n : ℕ) → card.low ≤ c → c ≤ most_components card n → 0 < lists_of counts node c n → 0 < tail_number counts.checked (Elements node element card) n
-  count_some c n low high some =
-      let lists : 0 < number_of_lists checked element c n = omega (arith, some, lists_are c n) in
-      let found : HasLists checked passed element is_element (exactly c) (supply checked.universe n)
-      = has_lists checked passed element is_element (exactly c) (supply checked.universe n) (supplied checked n) lists in
-      found.each card (subst (λ k. admits card k ≡ true) (sym (own_alone c found.count found.admitted)) (admits_between card c n low high))
+    few_are : (c n : ℕ) → n < c → number_of_lists checked element c n ≡ 0
+    few_are c n less = elim h.kind [
+      | inl sequence ↦ nodes_are_counted.few checked element c n passed (record { node = node; sequence = sequence; child = h.child }) less
+      | inr cycle ↦ labelled_nodes_are_counted.few_lists checked element c n passed (cycle_labelled checked passed node element cycle h.child) of less
+    ]
+
+    lists_told : (n : ℕ) → AreTold n (lists_on checked element) (atoms n) (λ c. lists_of counts node c n)
+    lists_told n = record {
+      has = λ bound some. let found = has_lists checked passed element of bound (atoms n) (supplied checked n) some in (found.count, found.admitted, found.each);
+      tells = λ c. lists_are c n;
+      few = λ c less. few_are c n less;
+    }
+
+    pub some_count : (n : ℕ) → 0 < tail_number counts.checked (Elements node element card) n
+        → HasCount (λ c. lists_of counts node c n) card n
+    some_count n some = found_count n (lists_on checked element) (atoms n) (λ c. lists_of counts node c n) (lists_told n) card some
+
+    pub count_some : (c n : ℕ) → card.low ≤ c → c ≤ most_components card n → 0 < lists_of counts node c n → 0 < tail_number counts.checked (Elements node element card) n
+    count_some c n low high some = found_lists n (lists_on checked element) (atoms n) (λ c. lists_of counts node c n) (lists_told n) card c low high some
+
+  -- ---- a Set or a PowerSet with labels
+
+  module _ (h : AreSetElements counts node element card) where
+    of_set : IsContained counts.checked element
+    of_set = is_set_element counts is node element card h
+
+    sets_are : (c n : ℕ) → sets_of counts node c n ≡ number_of_sets checked element c n
+    sets_are c n = elim h.kind [
+      | inl set ↦
+          let there : ContainerNode checked kind.Set node element = container_node checked kind.Set node element set h.child in
+          ap (λ o. option_map_or (λ e. number (grammar checked) (with_exactly c e) n) o 0) there.at
+          ∙ sets_number checked passed element (record { node = node; kind = kind.Set; is = set; child = h.child }) h.labelled c n
+      | inr power_set ↦
+          let there : ContainerNode checked kind.PowerSet node element = container_node checked kind.PowerSet node element power_set h.child in
+          ap (λ o. option_map_or (λ e. number (grammar checked) (with_exactly c e) n) o 0) there.at
+          ∙ power_sets_number checked passed element (record { node = node; kind = kind.PowerSet; is = power_set; child = h.child }) h.labelled c n
+    ]
+
+    sets_told : (n : ℕ) → AreTold n (set_lists_on checked element) (atoms n) (λ c. sets_of counts node c n)
+    sets_told n = record {
+      has = λ bound some. let found = has_sets checked passed element of_set h.labelled bound (atoms n) (supplied checked n) some in (found.count, found.admitted, found.each);
+      tells = λ c. sets_are c n;
+      few = λ c less. labelled_nodes_are_counted.few_sets checked element c n passed h.labelled of_set less;
+    }
+
+    pub some_set_count : (n : ℕ) → 0 < tail_number counts.checked (SetElements node element card) n
+        → HasCount (λ c. sets_of counts node c n) card n
+    some_set_count n some = found_count n (set_lists_on checked element) (atoms n) (λ c. sets_of counts node c n) (sets_told n) card some
+
+    pub count_some_set : (c n : ℕ) → card.low ≤ c → c ≤ most_components card n → 0 < sets_of counts node c n → 0 < tail_number counts.checked (SetElements node element card) n
+    count_some_set c n low high some = found_lists n (set_lists_on checked element) (atoms n) (λ c. sets_of counts node c n) (sets_told n) card c low high some

@@ -5,7 +5,6 @@ use Rattle.lists.specs.Enumeration.{IsIn}
 use Rattle.spec_syntax.specs.declared.statement.Universe.{Universe}
 use Rattle.spec_syntax.specs.Expression.{Name}
 use Rattle.spec_syntax.specs.Rules.{rule_name}
-use Rattle.spec_syntax.specs.Rules.{are_sequences}
 use Rattle.struct_model.specs.Structure.{Structure, size}
 use Rattle.struct_model.specs.declared.supplies.Supply.{Supply}
 use Rattle.struct_model.specs.SupplyView.{supply_labels, supply_universe, is_in_order}
@@ -51,9 +50,8 @@ opened_small counts is node supply later s asked opens = (
 
 -- the labels of the greatest size can be asked for
 pub whole_asked : (counts : Counts) (grammar : Checked) (supply : Supply) (universe : Universe) (n : ℕ) → grammar ≡ counts.checked → universe ≡ grammar.universe → n ≡ counts.size
-    → supply_labels supply ≡ made universe n → supply_universe supply ≡ universe → IsTrue (is_in_order supply) → IsTrue (are_sequences counts.checked.rules) → IsAsked counts supply
-whole_asked counts grammar supply universe n same universe_is n_is labels of_universe in_order sequences = record {
-  sequences = sequences;
+    → supply_labels supply ≡ made universe n → supply_universe supply ≡ universe → IsTrue (is_in_order supply) → IsAsked counts supply
+whole_asked counts grammar supply universe n same universe_is n_is labels of_universe in_order = record {
   in_order = in_order;
   universe = of_universe ∙ universe_is ∙ ap (λ (g : Checked). g.universe) same;
   within = let long = ap length labels ∙ supply_size universe n in omega arith;

@@ -11,7 +11,10 @@ use Rattle.struct_walk.specs.declared.later.Later as later
 use Rattle.struct_walk.specs.declared.later.Later.{Later}
 use Rattle.struct_walk.specs.declared.later.LaterLists as lists
 use Rattle.struct_walk.specs.declared.later.LaterLists.{LaterLists}
+use Rattle.struct_walk.specs.declared.later.LaterSorted as sorted
+use Rattle.struct_walk.specs.declared.later.LaterSorted.{LaterSorted}
 use Rattle.struct_walk.specs.declared.later.Level.{Level}
+use Rattle.struct_walk.specs.SortedTails.{at_sorted_level}
 use Rattle.struct_walk.specs.Tails.{tail_on, on_splits}
 
 -- of a structure of a rule what there is of the one inside, each as one of the rule
@@ -44,6 +47,7 @@ abbrev mutual
   structures_after checked later.Nothing s = []
   structures_after checked (later.Argument' node supply p inner) s = under_rules (argument_after checked node supply (structures_after checked inner)) s
   structures_after checked (later.Components' p inner) s = under_rules (components_after (lists_after checked inner)) s
+  structures_after checked (later.Sorted' p inner) s = under_rules (components_after (sorted_after checked inner)) s
 
   -- the lists of components that come after this one
   pub lists_after : Checked → LaterLists → List Structure → List (List Structure)
@@ -52,6 +56,12 @@ abbrev mutual
   lists_after checked (lists.Last inner) (s ∷ ss) = map (λ t. t ∷ []) (structures_after checked inner s)
   lists_after checked (lists.Parts' level inner q others) [] = []
   lists_after checked (lists.Parts' level inner q others) (s ∷ ss) = map (λ rest. s ∷ rest) (lists_after checked others ss) ++ at_level checked level.value (structures_after checked inner s)
+
+  -- the sorted lists of components that come after this one
+  pub sorted_after : Checked → LaterSorted → List Structure → List (List Structure)
+  sorted_after checked sorted.Nothing ss = []
+  sorted_after checked (sorted.Level' level inner q others) [] = []
+  sorted_after checked (sorted.Level' level inner q others) (s ∷ ss) = map (λ rest. s ∷ rest) (sorted_after checked others ss) ++ at_sorted_level checked level (structures_after checked inner s)
 
 -- the lists that come later than one whose first component stands on this level
 abbrev pub parts_after : Checked → Level → Later → LaterLists → List Structure → List (List Structure)

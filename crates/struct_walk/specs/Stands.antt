@@ -1,10 +1,14 @@
 -- What is known of a structure and of what comes later, so that the next structure can be reached.
-use Rattle.std.specs.Prelude.{◌≡◌, ℕ, ◌≤◌, ◌<◌, ◌^◌, List, [], ◌∷◌, length, All, IsTrue}
-use Rattle.spec_syntax.specs.Rules.{are_sequences}
+use Rattle.std.specs.Prelude.{◌≡◌, ◌⊎◌, ℕ, ◌+◌, ◌≤◌, ◌<◌, ◌^◌, List, [], ◌∷◌, ◌++◌, length, All, IsTrue}
+use Rattle.spec_syntax.specs.declared.statement.Universe.TheVariants.{Unlabelled}
+use Rattle.struct_model.specs.Membership.{supply}
+use Rattle.struct_model.specs.declared.tree.Form5.{Form5}
+use Rattle.struct_model.specs.declared.tree.Form5.TheVariants as form
 use Rattle.struct_model.specs.Structure.{Structure, Named, Alt, Tup, part_list, parts_of, size, labels_of_parts}
 use Rattle.struct_model.specs.declared.supplies.Supply.{Supply}
 use Rattle.struct_model.specs.SupplyView.{supply_labels, supply_universe, is_in_order}
 use Rattle.well_founded.specs.declared.node.NodeKind.TheVariants as told
+use Rattle.well_founded.specs.Checked.{Checked}
 use Rattle.splits.specs.Splits.{Split}
 use Rattle.lists.specs.Enumeration.{IsIn}
 use Rattle.listing_laws.specs.NodeListing.{HasKind, listing_on}
@@ -14,15 +18,23 @@ use Rattle.struct_walk.specs.declared.later.Later as later
 use Rattle.struct_walk.specs.declared.later.Later.{Later}
 use Rattle.struct_walk.specs.declared.later.LaterLists as lists
 use Rattle.struct_walk.specs.declared.later.LaterLists.{LaterLists}
+use Rattle.struct_walk.specs.declared.later.LaterSorted as sorted
+use Rattle.struct_walk.specs.declared.later.LaterSorted.{LaterSorted}
 use Rattle.struct_walk.specs.declared.later.Level.{Level}
+use Rattle.struct_walk.specs.declared.sorted_tail.SortedLevel.{SortedLevel}
+use Rattle.struct_walk.specs.After.{structures_after}
+use Rattle.struct_walk.specs.SortedTails.{IsSortedTail}
 use Rattle.struct_walk.specs.Tails.{tail_on, IsTail}
 
--- a supply of the class's universe with no more labels than the greatest size. No container but a Sequence stands in the rules
+-- a supply of the class's universe with no more labels than the greatest size
 pub record IsAsked (counts : Counts) (supply : Supply) : Type 0 where
-  pub sequences : IsTrue (are_sequences counts.checked.rules)
   pub in_order : IsTrue (is_in_order supply)
   pub universe : supply_universe supply ≡ counts.checked.universe
   pub within : length (supply_labels supply) ≤ counts.size
+
+-- a Set or a PowerSet, and the form of its structures
+abbrev pub IsSetOf : Checked → ℕ → Form5 → Type 0
+IsSetOf checked node f = (HasKind checked node told.Set × (f ≡ form.Set)) ⊎ (HasKind checked node told.PowerSet × (f ≡ form.PowerSet))
 
 -- a first component and what stands behind it, both of them reached
 pub record IsCut (counts : Counts) (cut : Cut) : Type 0 where
@@ -50,6 +62,17 @@ pub record CanGoOn (counts : Counts) (node : ℕ) (supply : Supply) : Type 0 whe
   pub union : HasKind counts.checked node told.Union
   pub asked : IsAsked counts supply
 
+-- these are the structure and all that comes later, behind some
+pub record GoesOn (counts : Counts) (all : List Structure) (later : Later) (s : Structure) : Type 0 where
+  pub earlier : List Structure
+  pub whole : all ≡ earlier ++ s ∷ structures_after counts.checked later s
+
+-- the component is one of those of its size, with all that come later, and the others have the atoms that are left
+pub record SortedLevelStands (counts : Counts) (level : SortedLevel) (inner : Later) (s : Structure) : Type 0 where
+  pub tail : IsSortedTail counts level.behind
+  pub within : level.taken + level.left ≤ counts.size
+  pub goes_on : GoesOn counts (listing_on counts.checked level.behind.element (supply Unlabelled level.taken)) inner s
+
 -- the structure inside all rules
 abbrev pub unnamed : Structure → Structure
 unnamed (Named rule s) = unnamed s
@@ -71,6 +94,7 @@ abbrev mutual
   Stands counts later.Nothing s = Unit {0}
   Stands counts (later.Argument' node supply p inner) s = ArgumentStands counts node supply (Stands counts inner) (unnamed s)
   Stands counts (later.Components' p inner) s = ComponentsStand (ListsStand counts inner) (unnamed s)
+  Stands counts (later.Sorted' p inner) s = ComponentsStand (SortedStand counts inner) (unnamed s)
 
   pub ListsStand : Counts → LaterLists → List Structure → Type 0
   ListsStand counts lists.Nothing ss = ss ≡ []
@@ -78,6 +102,11 @@ abbrev mutual
   ListsStand counts (lists.Last inner) (s ∷ ss) = Stands counts inner s × (ss ≡ [])
   ListsStand counts (lists.Parts' level inner q others) [] = ⊥
   ListsStand counts (lists.Parts' level inner q others) (s ∷ ss) = LevelStands counts level.value × (Stands counts inner s × ListsStand counts others ss)
+
+  pub SortedStand : Counts → LaterSorted → List Structure → Type 0
+  SortedStand counts sorted.Nothing ss = ss ≡ []
+  SortedStand counts (sorted.Level' level inner q others) [] = ⊥
+  SortedStand counts (sorted.Level' level inner q others) (s ∷ ss) = SortedLevelStands counts level inner s × (Stands counts inner s × SortedStand counts others ss)
 
 -- the same of a list whose first component stands on a level
 abbrev pub PartsStand : Counts → Later → LaterLists → List Structure → Type 0

@@ -1,15 +1,17 @@
 //! Walks over the members of a class.
-ghost use Rattle.std.specs.Prelude.{◌≡◌, ℕ, ◌∷◌, [], Some, false, true, drop, slice_get, IfOk, IfSome, IfNone, OnOk, OnErr, IsTrue};
+ghost use Rattle.std.specs.Prelude.{◌≡◌, ℕ, ◌∷◌, [], Some, false, true, drop, slice_get, IfOk, IfErr, IfSome, IfNone, OnOk, OnErr, IsTrue};
 ghost use Rattle.spec_syntax.specs.Expression.{Name};
-ghost use Rattle.spec_syntax.specs.Rules.{are_sequences, rule_name};
+ghost use Rattle.spec_syntax.specs.Rules.{rule_name};
 ghost use Rattle.struct_model.specs.Bounded.{listing};
-ghost use Rattle.struct_model.specs.Membership.{supply};
+ghost use Rattle.struct_model.specs.Membership.{supply, is_member};
 ghost use Rattle.well_founded.specs.Checked.{grammar as grammar_of};
 ghost use Rattle.listing_laws.specs.NodeListing.{listing_of_rule};
 ghost use Rattle.size_counts.specs.CountedView.{Counts};
+ghost use Rattle.struct_walk.specs.Resumed.{those_after, AfterFaultSays};
 
-use crate::walk::Walk;
+use crate::walk::{AfterFault, Walk};
 use crate::walker::Walker;
+use canon::is_member;
 use size_counts::Counted;
 use std::alloc::{AllocError, Global};
 use std::marker::Model;
@@ -40,6 +42,15 @@ impl Model for Iter {
     ghost invariant = { λ a. HasRest a.counted a.walker };
 }
 
+/// Whether the structure is a member of the class at the greatest size of the numbers.
+fn is_member_of(counted: &Counted, s: &Struct) -> bool
+    ensures { (sym : ℕ) → counted.now.checked.start ≡ Some sym → result ≡ is_member (grammar_of counted.now.checked) (rule_name counted.now.checked.rules sym) counted.now.size s.now }
+{
+    let grammar = counted.grammar();
+    let sym = grammar.start().unwrap();
+    is_member(grammar, sym, counted.size(), s)
+}
+
 impl Iter {
     /// A walk over the members of the class at the size.
     ///
@@ -47,12 +58,32 @@ impl Iter {
     ///
     /// Memory may be wanting.
     pub fn first(alloc: Global, counted: Counted) -> Result<Iter, AllocError>
-        requires { IsTrue (are_sequences counted.checked.rules) }
         ensures counts { IfOk result (λ iter. iter.counts ≡ counted) }
         ensures rest { (sym : ℕ) → counted.checked.start ≡ Some sym → IfOk result (λ iter. iter.rest ≡ listing_of_rule counted.checked sym counted.size) }
         ensures whole { IfOk result (λ iter. iter.is_broken ≡ false) }
     {
         let walker = Walker::over_members(alloc, &counted)?;
+        Ok(Iter { counted, walker })
+    }
+
+    /// A walk over the members of the class at the size that come after `from`.
+    ///
+    /// # Errors
+    ///
+    /// `from` may be no member of the class at the size, or memory may be wanting.
+    pub fn after(alloc: Global, counted: Counted, from: &Struct) -> Result<Iter, AfterFault>
+        ensures counts { IfOk result (λ iter. iter.counts ≡ counted) }
+        ensures rest { (sym : ℕ) → counted.checked.start ≡ Some sym → IfOk result (λ iter. iter.rest ≡ those_after true from.now (listing_of_rule counted.checked sym counted.size)) }
+        ensures whole { IfOk result (λ iter. iter.is_broken ≡ false) }
+        ensures member { (sym : ℕ) → counted.checked.start ≡ Some sym → IfOk result (λ iter. IsTrue (is_member (grammar_of counted.checked) (rule_name counted.checked.rules sym) counted.size from.now)) }
+        ensures fault { (sym : ℕ) → counted.checked.start ≡ Some sym → IfErr result (AfterFaultSays (grammar_of counted.checked) (rule_name counted.checked.rules sym) counted.size from.now) }
+    {
+        if !is_member_of(&counted, from) {
+            return Err(AfterFault::NotMember);
+        }
+        let Ok(walker) = Walker::after_member(alloc, &counted, from) else {
+            return Err(AfterFault::Memory);
+        };
         Ok(Iter { counted, walker })
     }
 

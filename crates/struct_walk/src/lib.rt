@@ -4,9 +4,16 @@
 #![tactic(auto)]
 
 mod arguments;
+mod behind;
+mod behind_sorted;
 mod iter;
 mod later;
 mod open;
+mod part;
+mod resume;
+mod sorted;
+mod sorted_tail;
+mod split_walk;
 mod stepping;
 mod tail;
 mod walk;

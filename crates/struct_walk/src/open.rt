@@ -2,24 +2,27 @@
 //!
 //! Only what has a structure is opened, as the numbers of the class tell. On the way down the number of labels never grows,
 //! and where it stays the rank falls.
-ghost use Rattle.std.specs.Prelude.{◌≡◌, ℕ, ◌≤◌, ◌<◌, List, [], ◌∷◌, length, map, IfOk};
+ghost use Rattle.std.specs.Prelude.{◌≡◌, ◌⊎◌, ℕ, ◌≤◌, ◌<◌, List, [], ◌∷◌, length, map, IfOk};
 ghost use Rattle.struct_model.specs.Structure.{Structure, Alt as Alternative, Tup, parts_of};
 ghost use Rattle.struct_model.specs.SupplyView.{supply_labels};
 ghost use Rattle.well_founded.specs.declared.node.NodeKind.TheVariants as told;
+ghost use Rattle.spec_syntax.specs.declared.statement.Universe.TheVariants.{Unlabelled};
 ghost use Rattle.spec_syntax.specs.Nodes.{children_at, right_node};
 ghost use Rattle.listing_laws.specs.Lister.{named};
 ghost use Rattle.listing_laws.specs.NodeListing.{HasKind, listing_on, rule_on, rule_rank};
 ghost use Rattle.size_counts.specs.CountedView.{IsReachedIn};
 ghost use Rattle.struct_walk.specs.Tails.{IsTail, tail_on};
 ghost use Rattle.struct_walk.specs.After.{argument_after, structures_after};
-ghost use Rattle.struct_walk.specs.Stands.{IsAsked, IsCut, Stands};
+ghost use Rattle.struct_walk.specs.Stands.{IsAsked, IsCut, IsSetOf, Stands};
 ghost use Rattle.struct_walk.specs.Opened.{Opens, OpensLists, OpensSplit};
 
 use crate::arguments::next_argument;
 use crate::later::{Later, LaterLists, Level};
-use crate::tail::{Cut, Tail, admitted_lengths, cut_tail, is_end};
+use crate::sorted::open_sorted_node;
+use crate::tail::{Cut, Tail, admitted_lengths, cut_tail, first_splits, is_end};
 use size_counts::Counted;
-use splits::{LengthWalk, copy_supply};
+use spec_syntax::Universe;
+use splits::copy_supply;
 use std::alloc::{AllocError, Global};
 use struct_model::{Form5, Shape, Struct, Structs, Supply};
 use well_founded::NodeKind;
@@ -36,7 +39,7 @@ fn only_label(supply: &Supply) -> u32
 }
 
 /// What comes later in argument `number` of a Union, where `inner` comes later inside, and then in the arguments behind it.
-fn later_in_union(
+pub(crate) fn later_in_union(
     alloc: Global,
     counted: &Counted,
     node: u32,
@@ -95,7 +98,37 @@ pub(crate) fn open_node(
             let tail = Tail::Elements(node, grammar.child(node, 1), grammar.card(node));
             open_components(alloc, counted, Form5::Sequence, tail, supply)
         }
-        NodeKind::Set | NodeKind::PowerSet | NodeKind::Cycle => unreachable!(),
+        NodeKind::Set => open_set(alloc, counted, Form5::Set, node, supply),
+        NodeKind::PowerSet => open_set(alloc, counted, Form5::PowerSet, node, supply),
+        NodeKind::Cycle => {
+            let tail = Tail::CycleElements(node, grammar.child(node, 1), grammar.card(node));
+            open_components(alloc, counted, Form5::Cycle, tail, supply)
+        }
+    }
+}
+
+/// The first structure of a Set or a PowerSet, which has this form, and what comes later.
+#[cycle(opening)]
+fn open_set(
+    alloc: Global,
+    counted: &Counted,
+    form: Form5,
+    node: u32,
+    supply: Supply,
+) -> Result<(Later, Struct), AllocError>
+    requires reached { IsReachedIn counted.now node }
+    requires set { IsSetOf counted.now.checked node form }
+    requires asked { IsAsked counted.now supply }
+    requires some { 0 < length (listing_on counted.now.checked node (supply_labels supply)) }
+    ensures { IfOk result (Opens counted.now (listing_on counted.now.checked node (supply_labels supply))) }
+{
+    let grammar = counted.grammar();
+    match grammar.universe() {
+        Universe::Unlabelled => open_sorted_node(alloc, counted, node, supply),
+        Universe::Labelled => {
+            let tail = Tail::SetElements(node, grammar.child(node, 1), grammar.card(node));
+            open_components(alloc, counted, form, tail, supply)
+        }
     }
 }
 
@@ -178,7 +211,7 @@ fn open_union(
     Ok((later, s))
 }
 
-/// The first structure of a Prod or a Sequence, which has these components, and what comes later.
+/// The first structure that has these components and this form, and what comes later.
 #[cycle(opening)]
 fn open_components(
     alloc: Global,
@@ -225,7 +258,7 @@ pub(crate) fn open_lists(
         return open_last(alloc, counted, cut.first, supply, components);
     }
     let lengths = admitted_lengths(alloc, counted, cut, n)?;
-    let mut splits = LengthWalk::first(alloc, supply, lengths)?;
+    let mut splits = first_splits(alloc, tail, supply, lengths)?;
     let Some((part, rest)) = splits.next(alloc)? else {
         unreachable!();
     };

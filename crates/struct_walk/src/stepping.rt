@@ -5,14 +5,16 @@
 ghost use Rattle.std.specs.Prelude.{◌≡◌, ◌<◌, ◌≤◌, ◌^◌, length, drop, IfOk};
 ghost use Rattle.struct_model.specs.Structure.{Alt as Alternative, Tup, parts_of, labels_of_parts};
 ghost use Rattle.struct_model.specs.SupplyView.{supply_labels};
-ghost use Rattle.struct_walk.specs.After.{arguments_behind, structures_after, lists_after, parts_after};
+ghost use Rattle.struct_walk.specs.After.{arguments_behind, structures_after, lists_after, sorted_after, parts_after};
 ghost use Rattle.struct_walk.specs.Tails.{on_splits};
-ghost use Rattle.struct_walk.specs.Stands.{CanGoOn, LevelStands, Stands, ListsStand, PartsStand, AreSmall, AreSmallLists};
-ghost use Rattle.struct_walk.specs.Opened.{Next, NextArgument, ListsStepTo, PartsStepTo, PartsOpen};
+ghost use Rattle.struct_walk.specs.Stands.{CanGoOn, LevelStands, SortedLevelStands, Stands, ListsStand, SortedStand, PartsStand, AreSmall, AreSmallLists};
+ghost use Rattle.struct_walk.specs.Opened.{Next, NextArgument, NextSorted, ListsStepTo, SortedStepTo, FirstStepTo, PartsStepTo, PartsOpen};
 
 use crate::arguments::next_argument;
-use crate::later::{Later, LaterLists, Level};
+use crate::later::{Later, LaterLists, LaterSorted, Level};
 use crate::open::{open_lists, open_node, open_split};
+use crate::sorted::{open_greater, open_sorted};
+use crate::sorted_tail::SortedLevel;
 use size_counts::Counted;
 use splits::copy_supply;
 use std::alloc::{AllocError, Global};
@@ -112,11 +114,35 @@ fn step_components(
     ensures next { IfOk result (Next counted.now (structures_after counted.now.checked later.old (Tup form (parts_of components.old))) later.new (Tup form (parts_of components.new))) }
     ensures few { length (labels_of_parts (parts_of components.new)) < 2 ^ 32 }
 {
+    if let Later::Sorted(sorted) = later {
+        return step_set(alloc, counted, sorted, components);
+    }
     let Later::Components(lists) = later else {
         return Ok(false);
     };
     let mut stepped = mem::replace(components, Structs::new(alloc));
     if step_lists(alloc, counted, lists, &mut stepped, 0)? {
+        *components = stepped;
+        return Ok(true);
+    }
+    Ok(false)
+}
+
+/// The same of sorted components.
+#[cycle(stepping)]
+fn step_set(
+    alloc: Global,
+    counted: &Counted,
+    later: &mut LaterSorted,
+    components: &mut Structs,
+) -> Result<bool, AllocError>
+    requires stand { SortedStand counted.now later.old components.old }
+    requires small { AreSmallLists (sorted_after counted.now.checked later.old components.old) }
+    ensures next { IfOk result (NextSorted counted.now (sorted_after counted.now.checked later.old components.old) later.new components.new) }
+    ensures few { length (labels_of_parts (parts_of components.new)) < 2 ^ 32 }
+{
+    let mut stepped = mem::replace(components, Structs::new(alloc));
+    if step_sorted(alloc, counted, later, &mut stepped, 0)? {
         *components = stepped;
         return Ok(true);
     }
@@ -187,6 +213,73 @@ fn step_parts(
         return Ok(true);
     }
     open_next_split(alloc, counted, level, first, others, components)
+}
+
+/// The same of sorted components.
+#[cycle(stepping)]
+fn step_sorted(
+    alloc: Global,
+    counted: &Counted,
+    later: &mut LaterSorted,
+    components: &mut Structs,
+    place: usize,
+) -> Result<bool, AllocError>
+    requires place { place ≤ length components.old }
+    requires stand { SortedStand counted.now later.old (drop place components.old) }
+    ensures { IfOk result (SortedStepTo counted.now place later.old components.old later.new components.new) }
+{
+    let _ = counted.grammar();
+    let LaterSorted::Level(level, first, others) = later else {
+        return Ok(false);
+    };
+    let count = components.len();
+    prove!(place < count);
+    if step_sorted(alloc, counted, others, components, place + 1)? {
+        return Ok(true);
+    }
+    let Some(component) = components.pop() else {
+        unreachable!();
+    };
+    let level = *level;
+    if step_first(alloc, counted, level, first, others, component, components)? {
+        return Ok(true);
+    }
+    let n = level.taken + level.left;
+    let greater = open_greater(alloc, counted, level.behind, level.taken, n, components)?;
+    let Some(opened) = greater else {
+        return Ok(false);
+    };
+    *later = opened;
+    Ok(true)
+}
+
+/// Puts the component of its size that comes next at the end, with the first list of the others behind it, if there is one.
+#[cycle(stepping)]
+fn step_first(
+    alloc: Global,
+    counted: &Counted,
+    level: SortedLevel,
+    first: &mut Later,
+    others: &mut LaterSorted,
+    mut component: Struct,
+    components: &mut Structs,
+) -> Result<bool, AllocError>
+    requires level { SortedLevelStands counted.now level first.old component }
+    requires stands { Stands counted.now first.old component }
+    ensures { IfOk result (FirstStepTo counted.now level (structures_after counted.now.checked first.old component) components.old first.new others.new components.new) }
+{
+    let _ = counted.grammar();
+    if !step(alloc, counted, first, &mut component)? {
+        return Ok(false);
+    }
+    components.push(component)?;
+    let opened = open_sorted(alloc, counted, level.behind, level.left, components)?;
+    let Some(opened) = opened else {
+        let _ = components.pop();
+        return Ok(false);
+    };
+    *others = opened;
+    Ok(true)
 }
 
 /// Puts the first list on the split that comes next at the end, if one comes.

@@ -1,6 +1,6 @@
 //! Walks over small classes, and the first steps over large ones.
-ghost use Rattle.std.specs.Prelude.{◌≡◌, false, [], ◌∷◌, ◌≤◌, IfOk, IfSome, IsTrue, IsSome, length};
-ghost use Rattle.spec_syntax.specs.Rules.{is_spec, are_sequences, symbol};
+ghost use Rattle.std.specs.Prelude.{◌≡◌, Some, false, [], ◌∷◌, ◌≤◌, IfOk, IfSome, IsTrue, IsSome, length};
+ghost use Rattle.spec_syntax.specs.Rules.{is_spec, symbol};
 ghost use Rattle.spec_syntax.specs.Expression.{Atom as AtomOf, Name as NameOf, Union as UnionOf, Prod as ProdOf, Many as ManyOf, more_expressions, no_expressions};
 ghost use Rattle.spec_syntax.specs.declared.expr.Kind.TheVariants.{Sequence as SequenceOf};
 ghost use Rattle.struct_walk.specs.Stands.{IsAsked};
@@ -11,7 +11,7 @@ use size_counts::Counted;
 use spec_syntax::{Card, Expr, ExprShape, Exprs, Kind, Name, Spec, Universe};
 use std::alloc::{AllocError, Global};
 use std::test::Fail;
-use struct_model::{Form5, Labels, Shape, Struct, Supply, labels};
+use struct_model::{Form5, Labels, Shape, Struct, Structs, Supply, labels, size};
 use well_founded::check;
 
 /// Z.
@@ -60,6 +60,15 @@ fn prod_of(alloc: Global, one: Expr, other: Expr) -> Result<Expr, AllocError>
     })
 }
 
+/// A container of the element, with this bound.
+fn many_of(alloc: Global, kind: Kind, element: Expr, card: Card) -> Result<Expr, AllocError>
+    ensures { IfOk result (λ expr. expr ≡ ManyOf kind element card) }
+{
+    Ok(Expr {
+        shape: ExprShape::Many(kind, Box::new(alloc, element)?, card),
+    })
+}
+
 /// A Sequence of the element, with this bound.
 fn sequence_of(alloc: Global, element: Expr, card: Card) -> Result<Expr, AllocError>
     ensures { IfOk result (λ expr. expr ≡ ManyOf SequenceOf element card) }
@@ -71,6 +80,21 @@ fn sequence_of(alloc: Global, element: Expr, card: Card) -> Result<Expr, AllocEr
 
 /// The bound that admits any number.
 const ANY: Card = Card { low: 0, high: None };
+
+/// The bound that admits any number but none.
+const SOME: Card = Card { low: 1, high: None };
+
+/// The words of this length over two letters.
+fn words_of(alloc: Global, length: u32) -> Result<Expr, AllocError>
+    ensures { IfOk result (λ expr. expr ≡ ManyOf SequenceOf (UnionOf (more_expressions AtomOf (more_expressions AtomOf no_expressions))) (record { low = length; high = Some length })) }
+{
+    let letters = union_of(alloc, atom(), atom())?;
+    let card = Card {
+        low: length,
+        high: Some(length),
+    };
+    sequence_of(alloc, letters, card)
+}
 
 /// The rule `S = right`.
 fn one_rule(alloc: Global, right: Expr) -> Result<Spec, AllocError>
@@ -91,11 +115,9 @@ fn counted(
     size: u32,
 ) -> Option<Counted>
     requires class { IsSome (symbol spec.now name.now) }
-    requires sequences { IsTrue (are_sequences spec.now) }
     requires small { size ≤ 1000 }
     ensures universe { IfSome result (λ counted. counted.checked.universe ≡ universe) }
     ensures size { IfSome result (λ counted. counted.size ≡ size) }
-    ensures sequences { IfSome result (λ counted. IsTrue (are_sequences counted.checked.rules)) }
 {
     let Ok(grammar) = check(alloc, spec, Some(name), universe) else {
         return None;
@@ -111,7 +133,6 @@ fn members(
     size: u32,
 ) -> Result<Option<Iter>, AllocError>
     requires spec { IsTrue (is_spec ((83 ∷ [], right) ∷ [])) }
-    requires sequences { IsTrue (are_sequences ((83 ∷ [], right) ∷ [])) }
     requires small { size ≤ 1000 }
 {
     let spec = one_rule(alloc, right)?;
@@ -155,6 +176,69 @@ fn passed(alloc: Global, iter: &mut Iter, limit: usize) -> Result<usize, AllocEr
     Ok(limit)
 }
 
+/// Puts the labels of a Cycle's components, which are atoms, and a 0 at the end.
+fn tell_cycle(alloc: Global, s: &Struct, told: &mut Vec<u32>) -> Result<(), AllocError> {
+    if matches!(&s.shape, Shape::Tup(Form5::Cycle, _)) {
+        told.extend_from_slice(labels(alloc, s)?.as_slice())?;
+    }
+    told.push(0)?;
+    Ok(())
+}
+
+/// Puts the labels of each Cycle in a Set of them, with a 0 behind each, and a 0 at the end.
+fn tell_set(alloc: Global, s: &Struct, told: &mut Vec<u32>) -> Result<(), AllocError> {
+    if let Shape::Named(1, inside) = &s.shape {
+        if let Shape::Tup(Form5::Set, cycles) = &inside.shape {
+            for cycle in cycles.as_slice() {
+                tell_cycle(alloc, cycle, told)?;
+            }
+        }
+    }
+    told.push(0)?;
+    Ok(())
+}
+
+/// What is told of the Sets of Cycles that come next, and of at most 9.
+fn told_sets(alloc: Global, iter: &mut Iter) -> Result<Vec<u32>, AllocError> {
+    let mut told = Vec::new(alloc);
+    for _ in 0..9 {
+        if iter.broken() {
+            return Ok(told);
+        }
+        if let Some(s) = iter.next(alloc)? {
+            tell_set(alloc, &s, &mut told)?;
+        }
+    }
+    Ok(told)
+}
+
+/// Puts the sizes of the components of a PowerSet at the end, and a 0 behind them.
+fn tell_sizes(s: &Struct, told: &mut Vec<u32>) -> Result<(), AllocError> {
+    if let Shape::Named(1, inside) = &s.shape {
+        if let Shape::Tup(Form5::PowerSet, parts) = &inside.shape {
+            for part in parts.as_slice() {
+                told.push(size(part))?;
+            }
+        }
+    }
+    told.push(0)?;
+    Ok(())
+}
+
+/// What is told of the PowerSets that come next, and of at most 9.
+fn told_sizes(alloc: Global, iter: &mut Iter) -> Result<Vec<u32>, AllocError> {
+    let mut told = Vec::new(alloc);
+    for _ in 0..9 {
+        if iter.broken() {
+            return Ok(told);
+        }
+        if let Some(s) = iter.next(alloc)? {
+            tell_sizes(&s, &mut told)?;
+        }
+    }
+    Ok(told)
+}
+
 /// Whether it is a structure of a Union's first argument, which is the letter of rule 2.
 fn is_first_letter(s: &Struct) -> bool {
     if let Shape::Alt(1, inside) = &s.shape {
@@ -180,9 +264,7 @@ fn is_first_word(s: &Struct) -> bool {
 }
 
 /// The words of the letters a and b: `F = Sequence(Union(a, b)), a = Atom, b = Atom`.
-fn words(alloc: Global) -> Result<Option<Counted>, AllocError>
-    ensures { IfOk result (λ words. IfSome words (λ counted. IsTrue (are_sequences counted.checked.rules))) }
-{
+fn words(alloc: Global) -> Result<Option<Counted>, AllocError> {
     let mut spec = Spec::new(alloc);
     let letters = union_of(alloc, named(alloc, b"a")?, named(alloc, b"b")?)?;
     let right = sequence_of(alloc, letters, ANY)?;
@@ -279,5 +361,108 @@ fn other_labels(rt: HostRuntime) -> Result<(), Fail> {
     let (one, other) = found.expect(&rt, "two structures");
     assert_eq!(rt; one.as_slice(), [3, 5, 9].as_slice());
     assert_eq!(rt; other.as_slice(), [3, 9, 5].as_slice());
+    Ok(())
+}
+
+#[test]
+fn sets_of_cycles(rt: HostRuntime) -> Result<(), Fail> {
+    let alloc = rt.alloc();
+    let cycles = many_of(alloc, Kind::Cycle, atom(), ANY)?;
+    let sets = many_of(alloc, Kind::Set, cycles, ANY)?;
+    let mut iter = members(alloc, sets, Universe::Labelled, 3)?.expect(&rt, "a class");
+    let told = told_sets(alloc, &mut iter)?;
+    assert_eq!(rt;
+        told.as_slice(),
+        [
+            1, 0, 2, 0, 3, 0, 0, // Set(Cycle(Z[1]), Cycle(Z[2]), Cycle(Z[3]))
+            1, 0, 2, 3, 0, 0, // Set(Cycle(Z[1]), Cycle(Z[2], Z[3]))
+            1, 2, 0, 3, 0, 0, // Set(Cycle(Z[1], Z[2]), Cycle(Z[3]))
+            1, 2, 3, 0, 0, // Set(Cycle(Z[1], Z[2], Z[3]))
+            1, 3, 2, 0, 0, // Set(Cycle(Z[1], Z[3], Z[2]))
+            1, 3, 0, 2, 0, 0, // Set(Cycle(Z[1], Z[3]), Cycle(Z[2]))
+        ]
+        .as_slice()
+    );
+    Ok(())
+}
+
+#[test]
+fn powersets_of_sequences(rt: HostRuntime) -> Result<(), Fail> {
+    let alloc = rt.alloc();
+    let sequences = sequence_of(alloc, atom(), SOME)?;
+    let sets = many_of(alloc, Kind::PowerSet, sequences, ANY)?;
+    let mut iter = members(alloc, sets, Universe::Unlabelled, 6)?.expect(&rt, "a class");
+    let told = told_sizes(alloc, &mut iter)?;
+    assert_eq!(rt;
+        told.as_slice(),
+        [1, 2, 3, 0, 1, 5, 0, 2, 4, 0, 6, 0].as_slice()
+    );
+    Ok(())
+}
+
+/// Whether the class of the rule `S = right` has a hundred members, as far as they are passed.
+fn has_a_hundred(
+    alloc: Global,
+    right: Expr,
+    universe: Universe,
+    size: u32,
+) -> Result<bool, AllocError>
+    requires spec { IsTrue (is_spec ((83 ∷ [], right) ∷ [])) }
+    requires small { size ≤ 1000 }
+{
+    match members(alloc, right, universe, size)? {
+        Some(mut iter) => Ok(passed(alloc, &mut iter, 100)? == 100),
+        None => Ok(false),
+    }
+}
+
+#[test]
+fn the_first_hundred_of_many(rt: HostRuntime) -> Result<(), Fail> {
+    let alloc = rt.alloc();
+    let parts = sequence_of(alloc, atom(), SOME)?;
+    let partitions = many_of(alloc, Kind::Set, parts, ANY)?;
+    assert!(rt; has_a_hundred(alloc, partitions, Universe::Unlabelled, 100)?);
+    let blocks = many_of(alloc, Kind::Set, atom(), SOME)?;
+    let partitions = many_of(alloc, Kind::Set, blocks, ANY)?;
+    assert!(rt; has_a_hundred(alloc, partitions, Universe::Labelled, 30)?);
+    let gaps = union_of(alloc, words_of(alloc, 7)?, words_of(alloc, 11)?)?;
+    let gaps = union_of(alloc, gaps, words_of(alloc, 13)?)?;
+    let distinct = many_of(alloc, Kind::PowerSet, gaps, ANY)?;
+    assert!(rt; has_a_hundred(alloc, distinct, Universe::Unlabelled, 100)?);
+    Ok(())
+}
+
+/// The Sequence of three atoms with these labels, as one of rule 1.
+fn word_of_three(alloc: Global, one: u32, two: u32, three: u32) -> Result<Struct, AllocError> {
+    let mut parts = Structs::new(alloc);
+    parts.push(Struct {
+        shape: Shape::Atom(0, one),
+    })?;
+    parts.push(Struct {
+        shape: Shape::Atom(0, two),
+    })?;
+    parts.push(Struct {
+        shape: Shape::Atom(0, three),
+    })?;
+    let inside = Struct {
+        shape: Shape::Tup(Form5::Sequence, parts),
+    };
+    Ok(Struct {
+        shape: Shape::Named(1, Box::new(alloc, inside)?),
+    })
+}
+
+#[test]
+fn after_a_member(rt: HostRuntime) -> Result<(), Fail> {
+    let alloc = rt.alloc();
+    let spec = one_rule(alloc, sequence_of(alloc, atom(), ANY)?)?;
+    let name = Name::from_slice(alloc, b"S")?;
+    let words = counted(alloc, &spec, &name, Universe::Labelled, 3);
+    let words = words.expect(&rt, "a class");
+    let from = word_of_three(alloc, 1, 3, 2)?;
+    let mut iter = Iter::after(alloc, words, &from)
+        .ok()
+        .expect(&rt, "a member");
+    assert!(rt; is_next(alloc, &mut iter, &[2, 1, 3])?);
     Ok(())
 }

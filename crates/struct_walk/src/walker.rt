@@ -1,14 +1,20 @@
 //! Walkers over the structures of a node.
 ghost use Rattle.std.specs.Prelude.{◌≡◌, ℕ, ◌∷◌, [], false, true, List, IfOk, IfSome, IfNone, OnOk, OnErr, IsTrue, ◌↔◌, drop, slice_get, Some};
-ghost use Rattle.spec_syntax.specs.Rules.{are_sequences};
 ghost use Rattle.struct_model.specs.SupplyView.{supply_labels};
+ghost use Rattle.lists.specs.Enumeration.{IsIn};
 ghost use Rattle.listing_laws.specs.NodeListing.{listing_on, listing_of_rule};
+ghost use Rattle.listing_laws.specs.SortedNodes.{following_at};
 ghost use Rattle.size_counts.specs.CountedView.{Counts, IsReachedIn};
+ghost use Rattle.spec_syntax.specs.Rules.{rule_name};
+ghost use Rattle.struct_model.specs.Membership.{is_member};
+ghost use Rattle.well_founded.specs.Checked.{grammar as grammar_of};
+ghost use Rattle.struct_walk.specs.Resumed.{those_after};
 ghost use Rattle.struct_walk.specs.Stands.{IsAsked};
 ghost use Rattle.struct_walk.specs.WalkerView.{walker_rest, walker_is_broken, HasRest};
 
 use crate::later::Later;
 use crate::open::{open_node, open_rule};
+use crate::resume::{resume, resume_rule};
 use crate::stepping::step;
 use size_counts::Counted;
 use std::alloc::{AllocError, Global};
@@ -60,7 +66,6 @@ impl Walker {
     ///
     /// Memory may be wanting.
     pub(crate) fn over_members(alloc: Global, counted: &Counted) -> Result<Walker, AllocError>
-        requires { IsTrue (are_sequences counted.now.checked.rules) }
         ensures rest { (sym : ℕ) → counted.now.checked.start ≡ Some sym → IfOk result (λ walker. walker_rest counted.now walker ≡ listing_of_rule counted.now.checked sym counted.now.size) }
         ensures has_rest { IfOk result (HasRest counted.now) }
         ensures whole { IfOk result (λ walker. walker_is_broken walker ≡ false) }
@@ -73,6 +78,62 @@ impl Walker {
         let supply = Supply::whole(alloc, grammar.universe(), counted.size())?;
         let (later, s) = open_rule(alloc, counted, sym, supply)?;
         Ok(Walker::At(s, later))
+    }
+
+    /// A walk over the structures of the node, which is reached, with the labels of the supply that come after `from`, which is
+    /// one of them, and over `from` itself too where `strict` is false.
+    ///
+    /// # Errors
+    ///
+    /// Memory may be wanting.
+    pub fn seek(
+        alloc: Global,
+        counted: &Counted,
+        node: u32,
+        supply: Supply,
+        from: &Struct,
+        strict: bool,
+    ) -> Result<Walker, AllocError>
+        requires reached { IsReachedIn counted.now node }
+        requires asked { IsAsked counted.now supply }
+        requires one { IsIn from.now (listing_on counted.now.checked node (supply_labels supply)) }
+        ensures rest { IfOk result (λ walker. walker_rest counted.now walker ≡ following_at counted.now.checked node strict from.now (supply_labels supply)) }
+        ensures has_rest { IfOk result (HasRest counted.now) }
+        ensures whole { IfOk result (λ walker. walker_is_broken walker ≡ false) }
+    {
+        let _ = counted.grammar();
+        let later = resume(alloc, counted, node, supply, from)?;
+        let s = copy(alloc, from)?;
+        let mut walker = Walker::At(s, later);
+        if strict {
+            walker.pass(alloc, counted)?;
+        }
+        Ok(walker)
+    }
+
+    /// A walk over the members of the class at the greatest size of its numbers that come after `from`, which is one of them.
+    ///
+    /// # Errors
+    ///
+    /// Memory may be wanting.
+    pub(crate) fn after_member(
+        alloc: Global,
+        counted: &Counted,
+        from: &Struct,
+    ) -> Result<Walker, AllocError>
+        requires { (sym : ℕ) → counted.now.checked.start ≡ Some sym → IsTrue (is_member (grammar_of counted.now.checked) (rule_name counted.now.checked.rules sym) counted.now.size from.now) }
+        ensures rest { (sym : ℕ) → counted.now.checked.start ≡ Some sym → IfOk result (λ walker. walker_rest counted.now walker ≡ those_after true from.now (listing_of_rule counted.now.checked sym counted.now.size)) }
+        ensures has_rest { IfOk result (HasRest counted.now) }
+        ensures whole { IfOk result (λ walker. walker_is_broken walker ≡ false) }
+    {
+        let grammar = counted.grammar();
+        let sym = grammar.start().unwrap();
+        let supply = Supply::whole(alloc, grammar.universe(), counted.size())?;
+        let later = resume_rule(alloc, counted, sym, supply, from)?;
+        let s = copy(alloc, from)?;
+        let mut walker = Walker::At(s, later);
+        walker.pass(alloc, counted)?;
+        Ok(walker)
     }
 
     /// The structure that comes next, or None where none is left. The walker isn't broken. It takes no memory.

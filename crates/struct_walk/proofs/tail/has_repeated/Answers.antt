@@ -1,4 +1,5 @@
 use Rattle.std.proofs.Common.{◌<◌, refl, true≢false, sym, arith}
+use Rattle.size_counts.specs.CountedView.{lists_of}
 use Rattle.struct_walk.proofs.TailBounds.{HasCount, some_count, count_some}
 use Rattle.struct_walk.proofs.tail.has_repeated.Goals as goal
 
@@ -14,7 +15,7 @@ pub returns : goal.returns
 returns c = (
   λ no. absurd (true≢false (sym no)),
   λ some.
-      let found : HasCount c.args.counted.now c.grammar.ensures.kept c.args.node c.args.element c.args.card c.requires.elements c.args.n =
+      let found : HasCount (λ k. lists_of c.args.counted.now c.args.node k c.args.n) c.args.card c.args.n =
       some_count c.args.counted.now c.grammar.ensures.kept c.args.node c.args.element c.args.card c.requires.elements c.args.n some in
       absurd (omega (arith, found.some, c.loop-components.invariant found.count found.low (omega arith))),
 )
