@@ -7,6 +7,7 @@ use canon::is_member;
 use spec_syntax::{Bytes, Card, Expr, ExprShape, Exprs, Kind, Name, Spec, Universe};
 use std::alloc::{AllocError, Global};
 use std::test::Fail;
+use struct_model::{Shape, Struct};
 use well_founded::{Grammar, check};
 
 /// Z.
@@ -73,6 +74,21 @@ fn one_of(alloc: Global, one: &[u8], other: &[u8]) -> Result<Expr, AllocError>
     Ok(Expr {
         shape: ExprShape::Union(arguments),
     })
+}
+
+/// `S = Union(Z, Z)`.
+fn two_atoms(alloc: Global) -> Result<Spec, AllocError>
+    ensures { IfOk result (λ spec. length spec ≡ 1) }
+{
+    let mut arguments = Exprs::new(alloc);
+    arguments.push(atom())?;
+    arguments.push(atom())?;
+    let union = Expr {
+        shape: ExprShape::Union(arguments),
+    };
+    let mut spec = Spec::new(alloc);
+    spec.add(Name::from_slice(alloc, b"S")?, union)?;
+    Ok(spec)
 }
 
 /// `F = Sequence(Union(a, b)), a = Atom, b = Atom`.
@@ -237,6 +253,38 @@ fn is_read_at(alloc: Global, spec: &Spec, text: &[u8], n: u32) -> Result<bool, A
     }
 }
 
+/// Whether the structure is an atom without a label, of that argument of the first rule's Union.
+fn is_choice(s: &Struct, argument: u32) -> bool {
+    let Shape::Named(1, choice) = &s.shape else {
+        return false;
+    };
+    let Shape::Alt(chosen, inside) = &choice.shape else {
+        return false;
+    };
+    *chosen == argument && matches!(inside.shape, Shape::Atom(0, 0))
+}
+
+/// Whether each of these texts is read exactly, as the atom of its argument, and is a member of the class at size 1.
+fn reads_choices(alloc: Global, spec: &Spec, choices: &[(u32, &str)]) -> Result<bool, AllocError>
+    requires { length spec.now ≡ 1 }
+{
+    let Ok(grammar) = check(alloc, spec, None, Universe::Unlabelled) else {
+        return Ok(false);
+    };
+    for (argument, text) in choices {
+        if text.len() > 100 || !reads_exactly(alloc, &grammar, text.as_bytes())? {
+            return Ok(false);
+        }
+        let Ok(s) = read_tagged(alloc, &grammar, 1, text.as_bytes()) else {
+            return Ok(false);
+        };
+        if !is_choice(&s, *argument) || !is_member(&grammar, 1, 1, &s) {
+            return Ok(false);
+        }
+    }
+    Ok(true)
+}
+
 #[test]
 fn what_is_read_is_of_its_size(rt: HostRuntime) -> Result<(), Fail> {
     let spec = sets_of_cycles(rt.alloc())?;
@@ -244,6 +292,9 @@ fn what_is_read_is_of_its_size(rt: HostRuntime) -> Result<(), Fail> {
     assert!(rt; at_one);
     let at_two = is_read_at(rt.alloc(), &spec, b"Set(Cycle(Z[1]))", 2)?;
     assert!(rt; !at_two);
+    let spec = two_atoms(rt.alloc())?;
+    let told = reads_choices(rt.alloc(), &spec, &[(1, "1:Z"), (2, "2:Z")])?;
+    assert!(rt; told);
     Ok(())
 }
 
