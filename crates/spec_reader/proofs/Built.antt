@@ -46,7 +46,7 @@ mutual
       names_in-append (expr (suc depth) first) (more_exprs (suc depth) others) ∙ (λ k. names-expr (suc depth) first k ++ names-more-exprs (suc depth) others k)
   names-expr depth (tree.Prod first others) =
       names_in-append (expr (suc depth) first) (more_exprs (suc depth) others) ∙ (λ k. names-expr (suc depth) first k ++ names-more-exprs (suc depth) others k)
-  names-expr depth (tree.Sequence element end) =
+  names-expr depth (tree.Container of element end) =
       names_in-append (expr (suc depth) element) (container_end end) ∙ (λ k. names-expr (suc depth) element k ++ names-container_end end k)
 
   names-more-exprs : (depth : ℕ) (es : ExprTrees) → names_in (more_exprs depth es) ≡ []

@@ -19,5 +19,4 @@ pub mod Agree
 pub mod Pieces
 pub mod Keeps
 pub mod Small
-pub mod Sequences
 pub mod InForce

@@ -3,6 +3,7 @@ use Rattle.std.proofs.Common.{◌≡◌, ℕ, suc, Bool, true, false, Option, So
 use Rattle.std.specs.Prelude.{if◌then◌else◌, is_some}
 use Rattle.spec_syntax.specs.Expression as expression
 use Rattle.spec_syntax.specs.Expression.{Expression, expressions_of}
+use Rattle.spec_syntax.specs.declared.expr.Kind.{Kind}
 use Rattle.spec_syntax.specs.declared.expr.Kind.TheVariants as kind
 use Rattle.spec_syntax.specs.declared.statement.Universe.{Universe}
 use Rattle.spec_syntax.specs.declared.statement.Universe.TheVariants as universe
@@ -26,7 +27,7 @@ use Rattle.spec_reader.specs.declared.draft.Compound.TheVariants.{Several, Conta
 use Rattle.spec_reader.specs.declared.draft.Draft.{Draft}
 use Rattle.spec_reader.specs.Tokens.{Token, Mark, Reserved, Name, Number, text_of, value}
 use Rattle.spec_reader.specs.Grammar as tree
-use Rattle.spec_reader.specs.Grammar.{Marked, BoundTree, ExprTree, ExprTrees, AtomTree, RuleTree, RulesTree, SymbolTree, UniverseTree, ClassTree, FormTree, EndTree, StatementTree, command_word, end_sign, comparison, bound, container_end, expr, more_exprs, right_of_z, rule, more_rules, rules, symbol, class_end, class, form, statement}
+use Rattle.spec_reader.specs.Grammar.{Marked, BoundTree, ExprTree, ExprTrees, AtomTree, RuleTree, RulesTree, SymbolTree, UniverseTree, ClassTree, FormTree, EndTree, StatementTree, command_word, container_word, end_sign, comparison, bound, container_end, expr, more_exprs, right_of_z, rule, more_rules, rules, symbol, class_end, class, form, statement}
 use Rattle.spec_reader.specs.Meaning.{turned, expression_of, expressions_of_all, right_of, symbol_of, universe_of, is_quiet}
 use Rattle.spec_reader.specs.Table.{is_mark, is_reserved, is_name, is_number, is_end, command_of, head_of, comparison_of, arguments, behind_command, only_if, more_or_end, step, role_of}
 use Rattle.spec_reader.specs.Table as table
@@ -204,12 +205,12 @@ effect-prod first others d =
     ∙ ap (λ rest. put (expression.Prod (expression.more_expressions (expression_of first) rest)) d) (list_of-all others)
 
 -- a container is put where it stood
-effect-sequence : (element : ExprTree) (end : Option BoundTree) (d : Draft)
-    → effect_of_container_end end (put (expression_of element) (record d { pending = Container kind.Sequence None unbounded ∷ d.pending }))
-    ≡ put (expression_of (tree.Sequence element end)) d
-effect-sequence element None d = refl
-effect-sequence element (Some (tree.CardFirst c digits)) d = refl
-effect-sequence element (Some (tree.NumberFirst digits c)) d = refl
+effect-container : (of : Kind) (element : ExprTree) (end : Option BoundTree) (d : Draft)
+    → effect_of_container_end end (put (expression_of element) (record d { pending = Container of None unbounded ∷ d.pending }))
+    ≡ put (expression_of (tree.Container of element end)) d
+effect-container of element None d = refl
+effect-container of element (Some (tree.CardFirst c digits)) d = refl
+effect-container of element (Some (tree.NumberFirst digits c)) d = refl
 
 -- a walk over one item's tokens, below which others are expected
 over : (ms ns : List Marked) (i : Item) (ks js : List Item) (d e f : Draft) → Walks ms (i ∷ []) d [] e → Walks ns ks e js f → Walks (ms ++ ns) (i ∷ ks) d js f
@@ -257,6 +258,22 @@ in_parentheses : (depth : ℕ) (first : ExprTree) (others : ExprTrees) (d e f : 
 in_parentheses depth first others d e f one rest =
     ([], refl, refl, over (expr (suc depth) first) (more_exprs (suc depth) others) (item.Expr (suc depth)) (item.MoreExprs (suc depth) ∷ []) [] d e f one rest)
 
+-- what stands behind the word of a container
+abbrev in_container : ℕ → ExprTree → Option BoundTree → List Marked
+in_container depth element end = tree.sign sign.OpenParen ∷ expr (suc depth) element ++ container_end end
+
+abbrev behind_container : ℕ → List Item
+behind_container depth = item.Mark sign.OpenParen ∷ item.Expr (suc depth) ∷ item.ContainerEnd ∷ []
+
+-- a container by what stands behind its word
+by-word : (depth : ℕ) (of : Kind) (element : ExprTree) (end : Option BoundTree) (d e : Draft)
+    → Walks (in_container depth element end) (behind_container depth) (record d { pending = Container of None unbounded ∷ d.pending }) [] e
+    → Walks (expr depth (tree.Container of element end)) (item.Expr depth ∷ []) d [] e
+by-word depth kind.Sequence element end d e walk = (behind_container depth, refl, refl, walk)
+by-word depth kind.Set element end d e walk = (behind_container depth, refl, refl, walk)
+by-word depth kind.PowerSet element end d e walk = (behind_container depth, refl, refl, walk)
+by-word depth kind.Cycle element end d e walk = (behind_container depth, refl, refl, walk)
+
 -- the table walks over each tree, and builds it
 mutual
   pub reads-expr : (depth : ℕ) (t : ExprTree) (d : Draft) → Walks (expr depth t) (item.Expr depth ∷ []) d [] (put (expression_of t) d)
@@ -276,17 +293,14 @@ mutual
     refl,
     in_parentheses depth first others _ _ _ (reads-expr (suc depth) first _) (reads-more (suc depth) others _),
   )
-  reads-expr depth (tree.Sequence element end) d = subst (λ e. Walks (expr depth (tree.Sequence element end)) (item.Expr depth ∷ []) d [] e) (effect-sequence element end d) (
-    item.Mark sign.OpenParen ∷ item.Expr (suc depth) ∷ item.ContainerEnd ∷ [],
-    refl,
-    refl,
-    (
-      [],
-      refl,
-      refl,
-      over (expr (suc depth) element) (container_end end) (item.Expr (suc depth)) (item.ContainerEnd ∷ []) [] _ _ _ (reads-expr (suc depth) element _) (reads-container_end end _),
-    ),
-  )
+  reads-expr depth (tree.Container of element end) d = subst (λ e. Walks (expr depth (tree.Container of element end)) (item.Expr depth ∷ []) d [] e) (effect-container of element end d) (
+      by-word depth of element end d _ (
+        [],
+        refl,
+        refl,
+        over (expr (suc depth) element) (container_end end) (item.Expr (suc depth)) (item.ContainerEnd ∷ []) [] _ _ _ (reads-expr (suc depth) element _) (reads-container_end end _),
+      )
+      )
 
   reads-more : (depth : ℕ) (es : ExprTrees) (d : Draft) → Walks (more_exprs depth es) (item.MoreExprs depth ∷ []) d [] (effect_of_exprs es d)
   reads-more depth tree.no_more d = ([], refl, refl, (refl, refl))
@@ -454,8 +468,7 @@ builds-expr depth (Some head.Atom) t (inr begins) parts = with-token (item.Expr 
 builds-expr depth (Some head.Name) t begins parts = with-token (item.Expr depth) t (Name (text_of t)) [] (tree.Named (text_of t)) begins refl
 builds-expr depth (Some (head.Former former.Union)) t begins parts = with-token (item.Expr depth) t (Reserved word.Union) _ (tree.Union parts.1.0 parts.1.1.0) begins (simp append-nil)
 builds-expr depth (Some (head.Former former.Prod)) t begins parts = with-token (item.Expr depth) t (Reserved word.Prod) _ (tree.Prod parts.1.0 parts.1.1.0) begins (simp append-nil)
-builds-expr depth (Some (head.Container kind.Sequence)) t begins parts = with-token (item.Expr depth) t (Reserved word.Sequence) _ (tree.Sequence parts.1.0 parts.1.1.0) begins (simp append-nil)
-builds-expr depth (Some (head.Container _)) t begins parts = absurd begins
+builds-expr depth (Some (head.Container of)) t begins parts = with-token (item.Expr depth) t (Reserved (container_word of)) _ (tree.Container of parts.1.0 parts.1.1.0) begins (simp append-nil)
 
 comparison-plain : (c : Comparison) → comparison c ∷ [] ≡ record { role = Plain; token = (comparison c).token } ∷ []
 comparison-plain compare.Equal = refl

@@ -1,8 +1,10 @@
 -- What the tests of a token say.
 use Rattle.std.proofs.Common.{◌≡◌, ℕ, Bool, true, false, ◌||◌, cond, Option, Some, None, List, [], refl, sym, ap, ◌∙◌, inl, inr, ◌⊎◌}
+use Rattle.std.specs.Option.{option_map}
 use Rattle.std.specs.Str.{bytes_eq}
 use Rattle.std.specs.Prelude.{find}
 use Rattle.std.proofs.lemmas.Slice.Eq.{bytes_eq-Decides}
+use Rattle.spec_syntax.specs.declared.expr.Kind.{Kind}
 use Rattle.spec_syntax.specs.declared.expr.Kind.TheVariants as kind
 use Rattle.spec_syntax.specs.declared.statement.Universe.{Universe}
 use Rattle.spec_syntax.specs.declared.statement.Universe.TheVariants as universe
@@ -18,8 +20,8 @@ use Rattle.spec_reader.specs.declared.table.Command.TheVariants as command
 use Rattle.spec_reader.specs.declared.table.Comparison.{Comparison}
 use Rattle.spec_reader.specs.declared.table.Comparison.TheVariants as compare
 use Rattle.spec_reader.specs.Tokens.{Token, Mark, Reserved, Name, Number, text_of, sign_text, signs, keyword_text, keyword_of}
-use Rattle.spec_reader.specs.Grammar.{command_word, EndTree, BySemicolon, ByColon, end_sign}
-use Rattle.spec_reader.specs.Table.{is_mark, is_reserved, is_name, is_number, is_end, command_of, head_of, comparison_of, universe_of}
+use Rattle.spec_reader.specs.Grammar.{command_word, container_word, EndTree, BySemicolon, ByColon, end_sign}
+use Rattle.spec_reader.specs.Table.{is_mark, is_reserved, is_name, is_number, is_end, command_of, kind_of, head_of, comparison_of, universe_of}
 
 sign_back : List ℕ → Option Sign
 sign_back text = find (λ s. bytes_eq (sign_text s) text) signs
@@ -152,6 +154,26 @@ command-tests false false t a c = tt
 pub command-is : (t : Token) → Commands (command_of t) t
 command-is t = command-tests (is_reserved word.AllStructs t) (is_reserved word.Count t) t (reserved-is word.AllStructs t) (reserved-is word.Count t)
 
+-- the word of a kind of container
+abbrev pub Kinds : Option Kind → Token → Type 0
+Kinds None t = Unit {0}
+Kinds (Some of) t = t ≡ Reserved (container_word of)
+
+kind-tests : (sequence set powerset cycle : Bool) (t : Token)
+    → (sequence ≡ true → t ≡ Reserved word.Sequence) → (set ≡ true → t ≡ Reserved word.Set)
+    → (powerset ≡ true → t ≡ Reserved word.PowerSet) → (cycle ≡ true → t ≡ Reserved word.Cycle)
+    → Kinds (cond sequence (Some kind.Sequence) (cond set (Some kind.Set) (cond powerset (Some kind.PowerSet) (cond cycle (Some kind.Cycle) None)))) t
+kind-tests true _ _ _ t a b c d = a refl
+kind-tests false true _ _ t a b c d = b refl
+kind-tests false false true _ t a b c d = c refl
+kind-tests false false false true t a b c d = d refl
+kind-tests false false false false t a b c d = tt
+
+kind-is : (t : Token) → Kinds (kind_of t) t
+kind-is t =
+    kind-tests (is_reserved word.Sequence t) (is_reserved word.Set t) (is_reserved word.PowerSet t) (is_reserved word.Cycle t) t
+    (reserved-is word.Sequence t) (reserved-is word.Set t) (reserved-is word.PowerSet t) (reserved-is word.Cycle t)
+
 -- the token that an expression begins with
 abbrev pub Begins : Option Head → Token → Type 0
 Begins None t = Unit {0}
@@ -160,30 +182,32 @@ Begins (Some head.Atom) t = (t ≡ Reserved word.Atom) ⊎ (t ≡ Reserved word.
 Begins (Some head.Name) t = t ≡ Name (text_of t)
 Begins (Some (head.Former former.Union)) t = t ≡ Reserved word.Union
 Begins (Some (head.Former former.Prod)) t = t ≡ Reserved word.Prod
-Begins (Some (head.Container kind.Sequence)) t = t ≡ Reserved word.Sequence
-Begins (Some (head.Container _)) t = ⊥
+Begins (Some (head.Container of)) t = t ≡ Reserved (container_word of)
 
-head-tests : (epsilon atom z name union prod sequence : Bool) (t : Token)
+container-begins : (found : Option Kind) (t : Token) → Kinds found t → Begins (option_map head.Container found) t
+container-begins None t kinds = tt
+container-begins (Some of) t kinds = kinds
+
+head-tests : (epsilon atom z name union prod : Bool) (found : Option Kind) (t : Token)
     → (epsilon ≡ true → t ≡ Reserved word.Epsilon) → (atom ≡ true → t ≡ Reserved word.Atom) → (z ≡ true → t ≡ Reserved word.Z)
     → (name ≡ true → t ≡ Name (text_of t)) → (union ≡ true → t ≡ Reserved word.Union) → (prod ≡ true → t ≡ Reserved word.Prod)
-    → (sequence ≡ true → t ≡ Reserved word.Sequence)
+    → Kinds found t
     → Begins (cond epsilon (Some head.Epsilon) (cond atom (Some head.Atom) (cond z (Some head.Atom) (cond name (Some head.Name)
-    (cond union (Some (head.Former former.Union)) (cond prod (Some (head.Former former.Prod)) (cond sequence (Some (head.Container kind.Sequence)) None))))))) t
-head-tests true _ _ _ _ _ _ t e a z n u p s = e refl
-head-tests false true _ _ _ _ _ t e a z n u p s = inl (a refl)
-head-tests false false true _ _ _ _ t e a z n u p s = inr (z refl)
-head-tests false false false true _ _ _ t e a z n u p s = n refl
-head-tests false false false false true _ _ t e a z n u p s = u refl
-head-tests false false false false false true _ t e a z n u p s = p refl
-head-tests false false false false false false true t e a z n u p s = s refl
-head-tests false false false false false false false t e a z n u p s = tt
+    (cond union (Some (head.Former former.Union)) (cond prod (Some (head.Former former.Prod)) (option_map head.Container found))))))) t
+head-tests true _ _ _ _ _ found t e a z n u p k = e refl
+head-tests false true _ _ _ _ found t e a z n u p k = inl (a refl)
+head-tests false false true _ _ _ found t e a z n u p k = inr (z refl)
+head-tests false false false true _ _ found t e a z n u p k = n refl
+head-tests false false false false true _ found t e a z n u p k = u refl
+head-tests false false false false false true found t e a z n u p k = p refl
+head-tests false false false false false false found t e a z n u p k = container-begins found t k
 
 pub head-begins : (t : Token) → Begins (head_of t) t
 head-begins t =
     head-tests (is_reserved word.Epsilon t) (is_reserved word.Atom t) (is_reserved word.Z t) (is_name t) (is_reserved word.Union t) (is_reserved word.Prod t)
-    (is_reserved word.Sequence t) t
+    (kind_of t) t
     (reserved-is word.Epsilon t) (reserved-is word.Atom t) (reserved-is word.Z t) (name-is t) (reserved-is word.Union t) (reserved-is word.Prod t)
-    (reserved-is word.Sequence t)
+    (kind-is t)
 
 -- the sign that a comparison is
 abbrev pub Compares : Option Comparison → Token → Type 0

@@ -2,6 +2,8 @@
 --
 -- Each token has a role, which says what it is in the statement as far as a limit asks.
 use Rattle.std.specs.Prelude.{ℕ, suc, List, [], ◌∷◌, ◌++◌, Option, Some, None}
+use Rattle.spec_syntax.specs.declared.expr.Kind.{Kind}
+use Rattle.spec_syntax.specs.declared.expr.Kind.TheVariants as kind
 use Rattle.spec_reader.specs.declared.token.Sign.{Sign}
 use Rattle.spec_reader.specs.declared.token.Sign.TheVariants.{Equals, AtMost, AtLeast, Semicolon, Colon, Comma, OpenParen, CloseParen, OpenBracket, CloseBracket, OpenBrace, CloseBrace}
 use Rattle.spec_reader.specs.declared.token.Keyword.{Keyword}
@@ -64,6 +66,13 @@ abbrev pub container_end : Option BoundTree → List Marked
 container_end None = sign CloseParen ∷ []
 container_end (Some b) = sign Comma ∷ bound b ++ sign CloseParen ∷ []
 
+-- "Sequence" | "Set" | "PowerSet" | "Cycle"
+abbrev pub container_word : Kind → Keyword
+container_word kind.Sequence = keyword.Sequence
+container_word kind.Set = keyword.Set
+container_word kind.PowerSet = keyword.PowerSet
+container_word kind.Cycle = keyword.Cycle
+
 mutual
   -- an expression as it is written
   pub data ExprTree : Type 0 where
@@ -73,13 +82,14 @@ mutual
     Named : (name : List ℕ) → ExprTree
     Union : (first : ExprTree) (others : ExprTrees) → ExprTree
     Prod : (first : ExprTree) (others : ExprTrees) → ExprTree
-    Sequence : (element : ExprTree) (bound : Option BoundTree) → ExprTree
+    Container : (of : Kind) (element : ExprTree) (bound : Option BoundTree) → ExprTree
 
   pub data ExprTrees : Type 0 where
     no_more : ExprTrees
     more : ExprTree → ExprTrees → ExprTrees
 
--- expr = "Epsilon" | "Atom" | "Z" | NAME | ( "Union" | "Prod" ) "(" expr { "," expr } ")" | "Sequence" "(" expr [ "," bound ] ")"
+-- expr = "Epsilon" | "Atom" | "Z" | NAME | ( "Union" | "Prod" ) "(" expr { "," expr } ")"
+--      | ( "Sequence" | "Set" | "PowerSet" | "Cycle" ) "(" expr [ "," bound ] ")"
 abbrev mutual
   pub expr : ℕ → ExprTree → List Marked
   expr depth Epsilon = starts depth (Reserved keyword.Epsilon) ∷ []
@@ -88,7 +98,7 @@ abbrev mutual
   expr depth (Named text) = starts depth (Name text) ∷ []
   expr depth (Union first others) = starts depth (Reserved keyword.Union) ∷ sign OpenParen ∷ expr (suc depth) first ++ more_exprs (suc depth) others
   expr depth (Prod first others) = starts depth (Reserved keyword.Prod) ∷ sign OpenParen ∷ expr (suc depth) first ++ more_exprs (suc depth) others
-  expr depth (Sequence element b) = starts depth (Reserved keyword.Sequence) ∷ sign OpenParen ∷ expr (suc depth) element ++ container_end b
+  expr depth (Container of element b) = starts depth (Reserved (container_word of)) ∷ sign OpenParen ∷ expr (suc depth) element ++ container_end b
 
   -- { "," expr } ")"
   pub more_exprs : ℕ → ExprTrees → List Marked

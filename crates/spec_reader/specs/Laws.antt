@@ -1,7 +1,7 @@
 -- Laws of pieces and of what they read as.
 use Rattle.std.specs.Prelude.{◌≡◌, ◌≤◌, ℕ, IsTrue, Bool, Result, List, [], ◌∷◌, drop}
 use Rattle.std.specs.Option.{option_map_or}
-use Rattle.spec_syntax.specs.Rules.{Rules, is_spec, are_sequences}
+use Rattle.spec_syntax.specs.Rules.{Rules, is_spec}
 use Rattle.spec_syntax.specs.declared.statement.RulesRef.{RulesRef}
 use Rattle.spec_syntax.specs.declared.statement.RulesRef.TheVariants as rules_ref
 use Rattle.spec_syntax.specs.declared.statement.ClassRef.{ClassRef}
@@ -131,11 +131,3 @@ FormIsSmall (form.Equations rules universe variable) = Unit {0}
 -- the size in a statement that is read is at most 1000
 abbrev pub ReadingsAreSmall : Type 0
 ReadingsAreSmall = (piece : List ℕ) (read : Statement) → ReadsAs piece read → FormIsSmall read.form
-
--- stands no container but a Sequence in the rules that are written in a form
-abbrev pub FormHasSequences : Form → Type 0
-FormHasSequences = FormPasses are_sequences
-
--- each container in a statement that is read is a Sequence
-abbrev pub ReadingsHaveSequences : Type 0
-ReadingsHaveSequences = (piece : List ℕ) (read : Statement) → ReadsAs piece read → FormHasSequences read.form

@@ -3,7 +3,6 @@ use Rattle.std.specs.Prelude.{ℕ, Bool, true, false, Option, Some, None, List, 
 use Rattle.spec_syntax.specs.Expression as expression
 use Rattle.spec_syntax.specs.Expression.{Expression, Expressions}
 use Rattle.spec_syntax.specs.Rules.{Rules}
-use Rattle.spec_syntax.specs.declared.expr.Kind.TheVariants as kind
 use Rattle.spec_syntax.specs.declared.expr.Card.{Card}
 use Rattle.spec_syntax.specs.declared.statement.Universe.{Universe}
 use Rattle.spec_syntax.specs.declared.statement.Universe.TheVariants as universe
@@ -50,7 +49,7 @@ abbrev mutual
   expression_of (tree.Named name) = expression.Name name
   expression_of (tree.Union first others) = expression.Union (expression.more_expressions (expression_of first) (expressions_of_all others))
   expression_of (tree.Prod first others) = expression.Prod (expression.more_expressions (expression_of first) (expressions_of_all others))
-  expression_of (tree.Sequence element bound) = expression.Many kind.Sequence (expression_of element) (card_of bound)
+  expression_of (tree.Container of element bound) = expression.Many of (expression_of element) (card_of bound)
 
   pub expressions_of_all : ExprTrees → Expressions
   expressions_of_all tree.no_more = expression.no_expressions

@@ -1,6 +1,8 @@
 -- The table of the grammar: what a token may be where something is expected, and what is expected after it.
 use Rattle.std.specs.Prelude.{ℕ, suc, Bool, true, false, ◌||◌, List, [], ◌∷◌, ◌++◌, ◌≡◌, nat_le, is_some, Option, Some, None, if◌then◌else◌}
+use Rattle.std.specs.Option.{option_map}
 use Rattle.std.specs.Str.{bytes_eq}
+use Rattle.spec_syntax.specs.declared.expr.Kind.{Kind}
 use Rattle.spec_syntax.specs.declared.expr.Kind.TheVariants as kind
 use Rattle.spec_syntax.specs.declared.statement.Universe.{Universe}
 use Rattle.spec_syntax.specs.declared.statement.Universe.TheVariants as universe
@@ -47,6 +49,14 @@ command_of token =
     if is_reserved word.AllStructs token then Some command.AllStructs
     else (if is_reserved word.Count token then Some command.Count else None)
 
+-- the kind of container that a word names
+abbrev pub kind_of : Token → Option Kind
+kind_of token =
+    if is_reserved word.Sequence token then Some kind.Sequence
+    else (if is_reserved word.Set token then Some kind.Set
+    else (if is_reserved word.PowerSet token then Some kind.PowerSet
+    else (if is_reserved word.Cycle token then Some kind.Cycle else None)))
+
 -- how an expression begins with a token
 abbrev pub head_of : Token → Option Head
 head_of token =
@@ -56,7 +66,7 @@ head_of token =
     else (if is_name token then Some head.Name
     else (if is_reserved word.Union token then Some (head.Former former.Union)
     else (if is_reserved word.Prod token then Some (head.Former former.Prod)
-    else (if is_reserved word.Sequence token then Some (head.Container kind.Sequence) else None))))))
+    else option_map head.Container (kind_of token))))))
 
 -- the comparison that a sign writes
 abbrev pub comparison_of : Token → Option Comparison

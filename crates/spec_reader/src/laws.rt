@@ -1,5 +1,5 @@
 //! Laws of pieces and of what they read as.
-ghost use Rattle.spec_reader.specs.Laws.{PiecesGoOn, PiecesFollow, OneReading, OneFault, SomeAnswer, NeverBoth, ReadingsAreInForce, ReadingsKeep, ReadingsAreSmall, ReadingsHaveSequences};
+ghost use Rattle.spec_reader.specs.Laws.{PiecesGoOn, PiecesFollow, OneReading, OneFault, SomeAnswer, NeverBoth, ReadingsAreInForce, ReadingsKeep, ReadingsAreSmall};
 
 /// The pieces of a script are its first piece and those of what follows it. Each stands behind the one before it, has a
 /// byte, lies within the script, and begins with a byte that begins a piece.
@@ -24,11 +24,9 @@ pub fn a_piece_has_a_statement_or_a_fault()
     ensures never_both { NeverBoth }
 {}
 
-/// A statement that is read is in force, the rules in it are a specification, its size is at most 1000, and each
-/// container in it is a Sequence.
+/// A statement that is read is in force, the rules in it are a specification, and its size is at most 1000.
 pub fn what_is_read_keeps_the_facts_of_a_specification()
     ensures in_force { ReadingsAreInForce }
     ensures keeps { ReadingsKeep }
     ensures small { ReadingsAreSmall }
-    ensures sequences { ReadingsHaveSequences }
 {}

@@ -3,7 +3,7 @@ ghost use Rattle.std.specs.Prelude.{◌≡◌, IfOk, IsTrue};
 ghost use Rattle.spec_reader.specs.TokenView.{plain};
 ghost use Rattle.spec_reader.specs.Tokens.{text_of};
 ghost use Rattle.spec_reader.specs.Meaning.{turned, asks};
-ghost use Rattle.spec_reader.specs.Table.{head_of, command_of, comparison_of, universe_of, step, role_of, is_shallow, Takes, only_if, more_or_end, is_end, is_mark, is_reserved, is_name, is_number};
+ghost use Rattle.spec_reader.specs.Table.{head_of, command_of, comparison_of, universe_of, kind_of, step, role_of, is_shallow, Takes, only_if, more_or_end, is_end, is_mark, is_reserved, is_name, is_number};
 ghost use Rattle.spec_reader.specs.declared.table.Item.TheVariants.{Statement, Class, Rule, Expr, Bound};
 
 use crate::stack::Stack;
@@ -251,6 +251,23 @@ impl Token<'_> {
         }
     }
 
+    /// The kind of container that a word names.
+    fn kind(&self) -> Option<Kind>
+        ensures { result ≡ kind_of (plain self.now) }
+    {
+        if self.is_reserved(Keyword::Sequence) {
+            Some(Kind::Sequence)
+        } else if self.is_reserved(Keyword::Set) {
+            Some(Kind::Set)
+        } else if self.is_reserved(Keyword::PowerSet) {
+            Some(Kind::PowerSet)
+        } else if self.is_reserved(Keyword::Cycle) {
+            Some(Kind::Cycle)
+        } else {
+            None
+        }
+    }
+
     /// How an expression begins with the token.
     pub(crate) fn head(&self) -> Option<Head>
         ensures { result ≡ head_of (plain self.now) }
@@ -265,10 +282,8 @@ impl Token<'_> {
             Some(Head::Former(Former::Union))
         } else if self.is_reserved(Keyword::Prod) {
             Some(Head::Former(Former::Prod))
-        } else if self.is_reserved(Keyword::Sequence) {
-            Some(Head::Container(Kind::Sequence))
         } else {
-            None
+            self.kind().map(Head::Container)
         }
     }
 }

@@ -1,7 +1,6 @@
 use Rattle.spec_reader.proofs.InForce.{readings-in-force}
 use Rattle.spec_reader.proofs.Keeps.{readings-keep}
 use Rattle.spec_reader.proofs.Small.{readings-small}
-use Rattle.spec_reader.proofs.Sequences.{readings-have-sequences}
 use Rattle.spec_reader.proofs.laws.what_is_read_keeps_the_facts_of_a_specification.Goals as goal
 
 pub returns-clause-in_force : goal.returns-clause-in_force
@@ -12,6 +11,3 @@ returns-clause-keeps c = readings-keep
 
 pub returns-clause-small : goal.returns-clause-small
 returns-clause-small c = readings-small
-
-pub returns-clause-sequences : goal.returns-clause-sequences
-returns-clause-sequences c = readings-have-sequences
