@@ -6,7 +6,7 @@ ghost use Rattle.spec_syntax.specs.declared.statement.Statement.{Statement};
 ghost use Rattle.spec_reader.specs.declared.refusal.ReadRefused.{ReadRefused};
 ghost use Rattle.spec_reader.specs.Cutting.{begins_piece, pieces};
 ghost use Rattle.spec_reader.specs.Reading.{Answers};
-ghost use Rattle.spec_reader.specs.Laws.{FormIsInForce, FormKeeps, FormIsSmall, FormHasSequences};
+ghost use Rattle.spec_reader.specs.Laws.{FormIsInForce, FormKeeps, FormIsSmall};
 ghost use Rattle.session.specs.Refusals.{IsTold};
 ghost use Rattle.session.specs.Effect.{Effect, first_state, StatementDoes};
 ghost use Rattle.combstruct_cli.specs.Answer.{Part, Answer, part_of, telling, place_in, refusing_long, PieceDoes, RunsPieces, is_early, Runs, IsAnswer, most_bytes, usage_answer};
@@ -150,7 +150,6 @@ fn run_statement<O: Sink, E: Sink>(
 ) -> Result<Outcome, Fault>
     requires live { IsTrue session.old.is_live }
     requires in_force { FormIsInForce statement.form }
-    requires sequences { FormHasSequences statement.form }
     requires small { FormIsSmall statement.form }
     requires keeps { FormKeeps statement.form }
     ensures cause { (input : ℕ) → HasRunCause input input (O.faults out.old) (O.faults out.new) (E.faults err.old) (E.faults err.new) result }

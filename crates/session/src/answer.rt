@@ -1,7 +1,7 @@
 //! What statements come to, before anything is written.
 ghost use Rattle.std.specs.Prelude.{◌≡◌, ◌≢◌, ◌++◌, ◌≤◌, ℕ, List, None, Some, length, codes, decimal, IsTrue, IfOk};
-ghost use Rattle.spec_syntax.specs.Rules.{is_spec, are_sequences, symbol as symbol_of, rule_name};
-ghost use Rattle.spec_reader.specs.Laws.{JobIsInForce, JobPasses, JobIsSmall, FormIsInForce, FormKeeps, FormIsSmall, FormHasSequences};
+ghost use Rattle.spec_syntax.specs.Rules.{is_spec, symbol as symbol_of, rule_name};
+ghost use Rattle.spec_reader.specs.Laws.{JobIsInForce, JobPasses, JobIsSmall, FormIsInForce, FormKeeps, FormIsSmall};
 ghost use Rattle.well_founded.specs.Checked.{grammar as grammar_of};
 ghost use Rattle.session.specs.Refusals.{CheckIsTold};
 ghost use Rattle.struct_text.specs.declared.form.TextForm.{TextForm};
@@ -58,7 +58,6 @@ fn answer_counted(
     sym: u32,
 ) -> Result<Answer, AllocError>
     requires start { counted.checked.start ≡ Some sym }
-    requires sequences { IsTrue (are_sequences counted.checked.rules) }
     ensures told { IfOk result CanBeTold }
     ensures does { (texts : TextForm) (symbol : List ℕ) (setting : Setting) → setting.is_quiet ≡ quiet → symbol_of counted.checked.rules symbol ≡ Some sym
         → IfOk result (λ answer. effect_of texts answer setting ≡ answering setting (text_of texts command (grammar_of counted.checked) symbol counted.size)) }
@@ -86,7 +85,6 @@ fn answer_checked(
     size: u32,
 ) -> Result<Answer, AllocError>
     requires rules { grammar.rules ≡ spec.now }
-    requires sequences { IsTrue (are_sequences spec.now) }
     requires start { grammar.start ≢ None }
     requires size { size ≤ 1000 }
     ensures told { IfOk result CanBeTold }
@@ -132,7 +130,6 @@ fn answer_class(
     size: u32,
 ) -> Result<Answer, AllocError>
     requires spec { IsTrue (is_spec spec.now) }
-    requires sequences { IsTrue (are_sequences spec.now) }
     requires size { size ≤ 1000 }
     ensures told { IfOk result CanBeTold }
     ensures does { (texts : TextForm) (setting : Setting) (whole : Effect) → setting.is_quiet ≡ quiet → CheckDoes (text_of texts command) (record { rules = spec.now; universe = universe }) symbol.now size setting whole
@@ -150,7 +147,6 @@ fn answer_class(
 /// What a command on a class at a size comes to.
 fn answer_job(alloc: Global, command: Command, quiet: bool, job: &Job) -> Result<Answer, AllocError>
     requires in_force { JobIsInForce job.now }
-    requires sequences { JobPasses are_sequences job.now }
     requires small { JobIsSmall job.now }
     requires keeps { JobPasses is_spec job.now }
     ensures told { IfOk result CanBeTold }
@@ -169,7 +165,6 @@ fn answer_job(alloc: Global, command: Command, quiet: bool, job: &Job) -> Result
 /// What a statement of this form comes to.
 pub(crate) fn answer_form(alloc: Global, quiet: bool, form: &Form) -> Result<Answer, AllocError>
     requires in_force { FormIsInForce form.now }
-    requires sequences { FormHasSequences form.now }
     requires small { FormIsSmall form.now }
     requires keeps { FormKeeps form.now }
     ensures told { IfOk result CanBeTold }

@@ -1,6 +1,6 @@
 //! Sessions, and the statements that they run.
 ghost use Rattle.std.specs.Prelude.{◌≡◌, ℕ, List, Option, IsTrue, IfOk, OnOk, true, false, is_ok};
-ghost use Rattle.spec_reader.specs.Laws.{FormIsInForce, FormKeeps, FormIsSmall, FormHasSequences};
+ghost use Rattle.spec_reader.specs.Laws.{FormIsInForce, FormKeeps, FormIsSmall};
 ghost use Rattle.session.specs.Refusals.{IsTold};
 ghost use Rattle.session.specs.Effect.{State, Effect, Setting, first_state, answering, refusing, structures_text, FormDoes, StatementDoes};
 ghost use Rattle.session.specs.Ending.{HasStepCause, Makes};
@@ -123,7 +123,6 @@ fn run<O: Sink, E: Sink>(
     err: &mut E,
 ) -> Result<Outcome, SessionFault>
     requires in_force { FormIsInForce statement.now.form }
-    requires sequences { FormHasSequences statement.now.form }
     requires small { FormIsSmall statement.now.form }
     requires keeps { FormKeeps statement.now.form }
     ensures cause { HasStepCause (O.faults out.old) (O.faults out.new) (E.faults err.old) (E.faults err.new) result }
@@ -165,7 +164,6 @@ impl Session {
     ) -> Result<Outcome, SessionFault>
         requires live { IsTrue self.old.is_live }
         requires in_force { FormIsInForce statement.form }
-        requires sequences { FormHasSequences statement.form }
         requires small { FormIsSmall statement.form }
         requires keeps { FormKeeps statement.form }
         ensures makes { (whole : Effect) → StatementDoes statement line self.old.texts self.old.state whole

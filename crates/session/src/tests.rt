@@ -4,9 +4,9 @@ ghost use Rattle.spec_reader.specs.Cutting.{begins_piece};
 ghost use Rattle.session.specs.Refusals.{IsTold, ReadingIsTold, CheckIsTold};
 
 use super::*;
-use comb_io::{MemSink, Sink};
+use comb_io::{MemSink, Sink, SureSink};
 use size_counts::{Group, Place};
-use spec_reader::{ReadRefused, Which, read_statement};
+use spec_reader::{ReadRefused, Which, first_piece, read_statement};
 use spec_syntax::{Bytes, Name};
 use std::alloc::{AllocError, Global};
 use std::process::Abort;
@@ -240,6 +240,195 @@ fn a_short_list_is_one_write(rt: HostRuntime) -> Result<(), Fail> {
         let ended = step_read(alloc, &mut session, LIST, &mut out, &mut err)?;
         assert_eq!(rt; ended, Outcome::Done);
         assert_eq!(rt; out.bytes(), told.as_bytes(), "{told}");
+    }
+    Ok(())
+}
+
+/// Reads the first statement of a script, and lets a session with texts in Maple's form run it: how it ended, and what it
+/// wrote to out and to err.
+fn answer(alloc: Global, script: &[u8]) -> Result<(Outcome, SureSink, SureSink), SessionFault> {
+    let mut session = Session::new(alloc, TextForm::Maple)?;
+    let mut out = SureSink::new(alloc);
+    let mut err = SureSink::new(alloc);
+    let Some((start, end)) = first_piece(script) else {
+        return Ok((Outcome::Done, out, err));
+    };
+    let ended = step_read(alloc, &mut session, &script[start..end], &mut out, &mut err)?;
+    Ok((ended, out, err))
+}
+
+/// Sees that a statement writes this to out.
+fn sees_answer(rt: &impl Abort, alloc: Global, script: &str, told: &str) -> Result<(), Fail> {
+    let (ended, out, err) = answer(alloc, script.as_bytes())?;
+    assert_eq!(rt; ended, Outcome::Done, "{script}");
+    assert_eq!(rt; out.bytes(), told.as_bytes(), "{script}");
+    assert_eq!(rt; err.bytes(), b"".as_slice());
+    Ok(())
+}
+
+/// Statements on classes with containers, and what they write to out.
+const LISTS: [(&str, &str); 6] = [
+    (
+        "allstructs([P, {P = Set(Cycle(Z))}, labelled], size = 3);",
+        "[Set(Cycle(Z[1]), Cycle(Z[2]), Cycle(Z[3])), Set(Cycle(Z[1]), Cycle(Z[2], Z[3])), Set(Cycle(Z[1], Z[2]), Cycle(Z[3])), Set(Cycle(Z[1], Z[2], Z[3])), Set(Cycle(Z[1], Z[3], Z[2])), Set(Cycle(Z[1], Z[3]), Cycle(Z[2]))]\n",
+    ),
+    (
+        "allstructs([P, {P = PowerSet(Q), Q = Sequence(Z, card >= 1)}], size = 3);",
+        "[PowerSet(Sequence(Z), Sequence(Z, Z)), PowerSet(Sequence(Z, Z, Z))]\n",
+    ),
+    (
+        "allstructs([U, {U = PowerSet(Z, card = 2)}], size = 2);",
+        "[]\n",
+    ),
+    (
+        "allstructs([S, {S = Set(Q, 1 <= card), Q = Sequence(Atom, card >= 1), Z = Atom}], size = 3);",
+        "[Set(Sequence(Z), Sequence(Z), Sequence(Z)), Set(Sequence(Z), Sequence(Z, Z)), Set(Sequence(Z, Z, Z))]\n",
+    ),
+    (
+        "allstructs([S, {S = Set(Z)}, labelled], size = 0);",
+        "[Set()]\n",
+    ),
+    (
+        "allstructs([C, {C = Cycle(Union(a, b)), a = Atom, b = Atom}, labelled], size = 2);",
+        "[Cycle(a[1], a[2]), Cycle(a[1], b[2]), Cycle(b[1], a[2]), Cycle(b[1], b[2])]\n",
+    ),
+];
+
+#[test]
+fn containers_are_listed(rt: HostRuntime) -> Result<(), Fail> {
+    for (script, told) in LISTS {
+        sees_answer(&rt, rt.alloc(), script, told)?;
+    }
+    Ok(())
+}
+
+/// Classes with containers, sizes and the numbers of structures.
+const NUMBERS: [(&str, u32, &str); 19] = [
+    ("[T, {T = Prod(Z, Set(T))}]", 5, "9"),
+    ("[T, {T = Prod(Z, Set(T))}]", 10, "719"),
+    (
+        "[P, {P = PowerSet(Q), Q = Sequence(Z, card >= 1)}]",
+        10,
+        "10",
+    ),
+    ("[P, {P = Set(Q), Q = Sequence(Z, card >= 1)}]", 10, "42"),
+    (
+        "[P, {P = Set(Q), Q = Sequence(Z, card >= 1)}]",
+        200,
+        "3972999029388",
+    ),
+    (
+        "[P, {P = PowerSet(F, card = 5), F = Sequence(Union(a, b), card = 10), a = Atom, b = Atom}]",
+        50,
+        "9291185992704",
+    ),
+    ("[P, {P = Set(Set(Z, card >= 1))}, labelled]", 5, "52"),
+    (
+        "[P, {P = Set(Set(Z, card >= 1))}, labelled]",
+        25,
+        "4638590332229999353",
+    ),
+    ("[S, {S = Set(Z)}, labelled]", 200, "1"),
+    ("[P, {P = PowerSet(Z)}, labelled]", 3, "1"),
+    ("[P, {P = PowerSet(Z)}]", 3, "0"),
+    ("[C, {C = Cycle(Z)}, labelled]", 6, "120"),
+    (
+        "[C, {C = Cycle(Z)}, labelled]",
+        34,
+        "8683317618811886495518194401280000000",
+    ),
+    (
+        "[C, {C = Cycle(Sequence(Z, card >= 1))}, labelled]",
+        4,
+        "90",
+    ),
+    (
+        "[N, {N = Cycle(Union(a, b)), a = Atom, b = Atom}, labelled]",
+        4,
+        "96",
+    ),
+    (
+        "[N, {N = Cycle(Union(a, b)), a = Atom, b = Atom}, labelled]",
+        6,
+        "7680",
+    ),
+    (
+        "[N, {N = Cycle(Union(a, b)), a = Atom, b = Atom}, labelled]",
+        20,
+        "127554132806291423232000",
+    ),
+    (
+        "[S, {S = Set(Q, 1 <= card), Q = Sequence(Atom, card >= 1), Z = Atom}]",
+        3,
+        "3",
+    ),
+    (
+        "[S, {S = PowerSet(F, card = 2), F = Sequence(Union(Z, Z), card = 64)}]",
+        128,
+        "170141183460469231722463931679029329920",
+    ),
+];
+
+#[test]
+fn containers_are_counted(rt: HostRuntime) -> Result<(), Fail> {
+    let alloc = rt.alloc();
+    for (class, size, number) in NUMBERS {
+        let script = format!(in alloc; "count({class}, size = {size});")?;
+        let told = format!(in alloc; "{number}\n")?;
+        sees_answer(&rt, alloc, script.as_str(), told.as_str())?;
+    }
+    Ok(())
+}
+
+/// Statements on classes with containers that are refused, and by which number and text.
+const REFUSED: [(&str, u32, &str); 8] = [
+    (
+        "allstructs([C, {C = Cycle(Sequence(Z, card >= 1))}, unlabelled], size = 4);",
+        26,
+        "Cycle in an unlabelled grammar, rule C",
+    ),
+    ("count([C, {C = Cycle(T)}], size = 4);", 20, "no rule for T"),
+    (
+        "count([C, {C = Prod(Z, C), D = Cycle(Epsilon)}], size = 4);",
+        26,
+        "Cycle in an unlabelled grammar, rule D",
+    ),
+    (
+        "count([C, {C = Cycle(Prod(Z, C))}, labelled], size = 4);",
+        22,
+        "rule C has no structure",
+    ),
+    (
+        "count([S, {S = Set(PowerSet(Z)), T = Union(Z, T)}], size = 1);",
+        23,
+        "rule S has a container over a class with a structure of size 0",
+    ),
+    (
+        "count([S, {S = Union(Z, Set(S, card = 1))}], size = 1);",
+        24,
+        "rule S has endlessly many structures of size 1",
+    ),
+    (
+        "count([S, {S = Set(F, card = 2), F = Sequence(Union(Z, Z), card = 64)}], size = 128);",
+        30,
+        "a number passes 128 bits: S, node 1, sets 2, size 128",
+    ),
+    (
+        "allstructs([C, {C = Cycle(Z)}, labelled], size = 35);",
+        30,
+        "a number passes 128 bits: C, node 1, lists 35, size 35",
+    ),
+];
+
+#[test]
+fn containers_are_refused(rt: HostRuntime) -> Result<(), Fail> {
+    let alloc = rt.alloc();
+    for (script, number, text) in REFUSED {
+        let (ended, out, err) = answer(alloc, script.as_bytes())?;
+        let told = format!(in alloc; "line 5: error {number}: {text}\n")?;
+        assert_eq!(rt; ended, Outcome::Refused(number), "{script}");
+        assert_eq!(rt; out.bytes(), b"".as_slice());
+        assert_eq!(rt; err.bytes(), told.as_bytes(), "{script}");
     }
     Ok(())
 }

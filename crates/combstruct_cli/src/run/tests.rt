@@ -186,6 +186,41 @@ fn refusals(rt: HostRuntime) -> Result<(), Fail> {
     Ok(())
 }
 
+#[test]
+fn containers(rt: HostRuntime) -> Result<(), Fail> {
+    let alloc = rt.alloc();
+    let cases = [
+        answered(
+            b"allstructs([P, {P = Set(Cycle(Z))}, labelled], size = 3);",
+            b"[Set(Cycle(Z[1]), Cycle(Z[2]), Cycle(Z[3])), Set(Cycle(Z[1]), Cycle(Z[2], Z[3])), Set(Cycle(Z[1], Z[2]), Cycle(Z[3])), Set(Cycle(Z[1], Z[2], Z[3])), Set(Cycle(Z[1], Z[3], Z[2])), Set(Cycle(Z[1], Z[3]), Cycle(Z[2]))]\n",
+        ),
+        answered(
+            b"allstructs([P, {P = PowerSet(Q), Q = Sequence(Z, card >= 1)}], size = 3);allstructs([U, {U = PowerSet(Z, card = 2)}], size = 2);",
+            b"[PowerSet(Sequence(Z), Sequence(Z, Z)), PowerSet(Sequence(Z, Z, Z))]\n[]\n",
+        ),
+        answered(
+            b"allstructs([S, {S = Union(Z, Set(S, card >= 2))}], size = 4);allstructs([C, {C = Cycle(Union(a, b), 1 <= card), a = Z, b = Z}, labelled], size = 2);",
+            b"[Set(Z, Z, Z, Z), Set(Z, Z, Set(Z, Z)), Set(Z, Set(Z, Z, Z)), Set(Z, Set(Z, Set(Z, Z))), Set(Set(Z, Z), Set(Z, Z))]\n[Cycle(a[1], a[2]), Cycle(a[1], b[2]), Cycle(b[1], a[2]), Cycle(b[1], b[2])]\n",
+        ),
+        answered(
+            b"count([T, {T = Prod(Z, Set(T))}], size = 10);count([P, {P = PowerSet(Q), Q = Sequence(Z, card >= 1)}], size = 10);count([N, {N = Cycle(Union(a, b)), a = Atom, b = Atom}, labelled], size = 20);",
+            b"719\n10\n127554132806291423232000\n",
+        ),
+        refused(
+            b"allstructs([C, {C = Cycle(Sequence(Z, card >= 1))}, unlabelled], size = 4);\ncount([S, {S = Set(Epsilon)}], size = 1);",
+            b"line 1: error 26: Cycle in an unlabelled grammar, rule C\nline 2: error 23: rule S has a container over a class with a structure of size 0\n",
+        ),
+        refused(
+            b"count([S, {S = Set(F, card = 2), F = Sequence(Union(Z, Z), card = 64)}], size = 128);",
+            b"line 1: error 30: a number passes 128 bits: S, node 1, sets 2, size 128\n",
+        ),
+    ];
+    for case in cases {
+        sees(&rt, alloc, case)?;
+    }
+    Ok(())
+}
+
 /// Lets each read fail in turn, and answers how many there are.
 fn fail_reads(rt: &impl Abort, alloc: Global, case: Case, most: usize) -> Result<u64, Fail> {
     assert!(rt; most > 0);
@@ -316,6 +351,9 @@ fn vast_lists_end_at_a_failed_write(rt: HostRuntime) -> Result<(), Fail> {
         gap,
         b"[Prod(Z[1], Sequence(Z[2], Z[3], Z[4], Z[5],",
     )?;
+    // the ways to part 30 labels, 846749014511809332450147 of them
+    let parted = b"allstructs([P, {P = Set(Set(Z, card >= 1))}, labelled], size = 30);";
+    sees_beginning(&rt, alloc, parted, b"[Set(Set(Z[1]), Set(Z[2]), Set(Z[3]),")?;
     Ok(())
 }
 

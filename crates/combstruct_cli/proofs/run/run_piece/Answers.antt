@@ -4,7 +4,6 @@ use Rattle.spec_reader.specs.declared.refusal.ReadRefused.{ReadRefused}
 use Rattle.spec_reader.proofs.InForce.{readings-in-force}
 use Rattle.spec_reader.proofs.Keeps.{readings-keep}
 use Rattle.spec_reader.proofs.Small.{readings-small}
-use Rattle.spec_reader.proofs.Sequences.{readings-have-sequences}
 use Rattle.session.specs.Effect.{Effect}
 use Rattle.combstruct_cli.specs.Answer.{Part, PieceDoes, part_of}
 use Rattle.combstruct_cli.specs.Outcome.{Makes}
@@ -17,7 +16,6 @@ run_statement-requires g c =
     record {
       live = c.requires.live;
       in_force = readings-in-force piece c.in-Ok.statement c.in-Ok.ensures.read;
-      sequences = readings-have-sequences piece c.in-Ok.statement c.in-Ok.ensures.read;
       small = readings-small piece c.in-Ok.statement c.in-Ok.ensures.read;
       keeps = readings-keep piece c.in-Ok.statement c.in-Ok.ensures.read;
     }
