@@ -4,7 +4,7 @@ use Rattle.spec_syntax.specs.declared.expr.Card.{Card}
 use Rattle.spec_syntax.specs.declared.expr.Kind.{Kind}
 use Rattle.spec_syntax.specs.declared.expr.Kind.TheVariants as kind
 use Rattle.spec_syntax.specs.Expression as expr
-use Rattle.spec_syntax.specs.Expression.{Expression, Expressions, is_sequence_at_most}
+use Rattle.spec_syntax.specs.Expression.{Expression, Expressions}
 use Rattle.well_founded.specs.declared.node.NodeKind.{NodeKind}
 use Rattle.well_founded.specs.declared.node.NodeKind.TheVariants as told
 use Rattle.well_founded.specs.NodeKinds.{kind_of, container, is_container}
@@ -60,14 +60,3 @@ many_is k (expr.Prod es) h = absurd (no_container k told.Prod refl (sym h))
 
 pub sequence_is : (e : Expression) → kind_of e ≡ told.Sequence → (element : Expression) × (card : Card) × (e ≡ expr.Many kind.Sequence element card)
 sequence_is e h = many_is kind.Sequence e h
-
--- where no container but a Sequence may stand, there is no other kind
-pub no_other_kind : (e : Expression) → is_sequence_at_most e ≡ true → (kind_of e ≡ told.Epsilon → ⊥) → (kind_of e ≡ told.Atom → ⊥) → (kind_of e ≡ told.Rule → ⊥)
-    → (kind_of e ≡ told.Union → ⊥) → (kind_of e ≡ told.Prod → ⊥) → (kind_of e ≡ told.Sequence → ⊥) → ⊥
-no_other_kind expr.Epsilon h epsilon atom rule union prod sequence = epsilon refl
-no_other_kind expr.Atom h epsilon atom rule union prod sequence = atom refl
-no_other_kind (expr.Name name) h epsilon atom rule union prod sequence = rule refl
-no_other_kind (expr.Union es) h epsilon atom rule union prod sequence = union refl
-no_other_kind (expr.Prod es) h epsilon atom rule union prod sequence = prod refl
-no_other_kind (expr.Many kind.Sequence element card) h epsilon atom rule union prod sequence = sequence refl
-no_other_kind (expr.Many k element card) h epsilon atom rule union prod sequence = true≢false (sym h)

@@ -4,7 +4,7 @@ use Rattle.std.specs.Option.{option_map, option_map_or, option_and_then}
 use Rattle.std.specs.List.{sum}
 use Rattle.spec_syntax.specs.declared.expr.Card.{Card}
 use Rattle.spec_syntax.specs.Expression.{Name, expressions_of}
-use Rattle.spec_syntax.specs.Rules.{symbol, right_side, rule_name, are_sequences}
+use Rattle.spec_syntax.specs.Rules.{symbol, right_side, rule_name}
 use Rattle.spec_syntax.specs.Nodes.{node_at, right_node, children_at, arguments_at, name_at, card_at}
 use Rattle.struct_model.specs.Structure.{Structure}
 use Rattle.struct_model.specs.Membership.{supply, is_supply}
@@ -17,11 +17,6 @@ use Rattle.well_founded.specs.Checked.{Checked, IsChecked, grammar}
 use Rattle.listing_laws.specs.Lister.{list_epsilon, list_atom, list_no_components, list_empty, alternatives, by_splits, by_parts, after_one, admits_some, product, sequence, named}
 use Rattle.listing_laws.specs.Recursion.{components_on, repeated_on}
 use Rattle.listing_laws.specs.Numbers.{joined, exactly, one_at, admitted}
-
--- it passed the check, and no container but a Sequence stands in its rules
-pub record IsListable (checked : Checked) : Type 0 where
-  pub passed : IsChecked checked
-  pub sequences : IsTrue (are_sequences checked.rules)
 
 -- the node is of this kind
 abbrev pub HasKind : Checked → ℕ → NodeKind → Type 0

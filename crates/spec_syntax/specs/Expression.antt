@@ -51,18 +51,6 @@ abbrev pub has_some : Expressions → Bool
 has_some no_expressions = false
 has_some (more_expressions e es) = true
 
--- is the expression no container, or a Sequence
-abbrev pub is_sequence_at_most : Expression → Bool
-is_sequence_at_most Epsilon = true
-is_sequence_at_most Atom = true
-is_sequence_at_most (Name name) = true
-is_sequence_at_most (Union arguments) = true
-is_sequence_at_most (Prod arguments) = true
-is_sequence_at_most (Many Sequence element card) = true
-is_sequence_at_most (Many Set element card) = false
-is_sequence_at_most (Many PowerSet element card) = false
-is_sequence_at_most (Many Cycle element card) = false
-
 abbrev mutual
   -- has each Union and each Prod an argument, and can each bound be written
   pub is_well_formed : Expression → Bool

@@ -4,7 +4,7 @@ use Rattle.std.specs.Option.{option_map}
 use Rattle.std.specs.List.{list_all, list_any, flat_map, position_from}
 use Rattle.std.specs.Cmp.Lexicographic.{pointwise}
 use Rattle.std.specs.Coded.{Coded, coded_list, coded×, coded_ℕ}
-use Rattle.spec_syntax.specs.Expression.{Expression, preorder, is_well_formed, is_sequence_at_most}
+use Rattle.spec_syntax.specs.Expression.{Expression, preorder, is_well_formed}
 use Rattle.spec_syntax.specs.ExpressionCode.{expression_code}
 use Rattle.spec_syntax.specs.Word.{is_word}
 
@@ -38,10 +38,6 @@ rule_name rules n = unwrap_or (option_map (λ rule. rule.0) (rule_at rules n)) [
 -- the expressions of all right sides in preorder, rule by rule. The place of one, from 0, is its number as a node
 abbrev pub all_nodes : Rules → List Expression
 all_nodes rules = flat_map (λ rule. preorder rule.1) rules
-
--- stands no container but a Sequence in the rules
-abbrev pub are_sequences : Rules → Bool
-are_sequences rules = list_all is_sequence_at_most (all_nodes rules)
 
 -- have no two rules one name
 abbrev pub are_names_distinct : Rules → Bool
