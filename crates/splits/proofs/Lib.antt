@@ -11,3 +11,4 @@ pub mod WalkLemmas
 pub mod ZeroSplits
 pub mod SplitSums
 pub mod PascalLemmas
+pub mod NthPart

@@ -19,14 +19,14 @@ abbrev pub shared : (ℕ → ℕ) → (ℕ → ℕ) → Split → ℕ
 shared first others split = first (length split.part) * others (length split.rest)
 
 -- the splits with a label in the part
-abbrev later : List ℕ → List Split
+abbrev pub later : List ℕ → List Split
 later [] = []
 later (label ∷ labels) = map (taking label) (splits labels) ++ map (leaving label) (filter (begins_above label) (splits labels))
 
-abbrev none_taken : List ℕ → Split
+abbrev pub none_taken : List ℕ → Split
 none_taken labels = record { part = []; rest = labels }
 
-none_first : (u : List ℕ) → splits u ≡ none_taken u ∷ later u
+pub none_first : (u : List ℕ) → splits u ≡ none_taken u ∷ later u
 none_first [] = refl
 none_first (label ∷ labels) = refl
 
@@ -34,7 +34,7 @@ begins_lower : (low label : ℕ) (part rest : List ℕ) → low < label → begi
 begins_lower low label [] rest above begun = begun
 begins_lower low label (n ∷ part) rest above begun = lt-ltb low n (omega (arith, ltb-true label n begun))
 
-later_begin : (low : ℕ) (u : List ℕ) → ascends_above low u ≡ true → (split : Split) → IsIn split (later u) → begins_above low split ≡ true
+pub later_begin : (low : ℕ) (u : List ℕ) → ascends_above low u ≡ true → (split : Split) → IsIn split (later u) → begins_above low split ≡ true
 later_begin low [] climbs split there = absurd there
 later_begin low (label ∷ labels) climbs split there =
     let first : nat_lt low label ≡ true = (and_parts (nat_lt low label) (ascends_above label labels) climbs).0 in
@@ -49,7 +49,7 @@ later_begin low (label ∷ labels) climbs split there =
     ]
 
 -- above a label that is less than all of them begins each part with a label
-later_only : (low : ℕ) (u : List ℕ) → ascends_above low u ≡ true → filter (begins_above low) (splits u) ≡ later u
+pub later_only : (low : ℕ) (u : List ℕ) → ascends_above low u ≡ true → filter (begins_above low) (splits u) ≡ later u
 later_only low u climbs = ap (filter (begins_above low)) (none_first u) ∙ filter_all (begins_above low) (later u) (later_begin low u climbs)
 
 -- over ascending labels the sum goes by what becomes of the first label

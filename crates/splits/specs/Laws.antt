@@ -1,5 +1,5 @@
 -- The laws of splits.
-use Rattle.std.specs.Prelude.{◌≡◌, ℕ, List, ◌++◌, IsTrue}
+use Rattle.std.specs.Prelude.{◌≡◌, ℕ, ◌≤◌, List, ◌++◌, length, IsTrue}
 use Rattle.std.specs.declared.cmp.Ordering.TheVariants.{Less}
 use Rattle.std.specs.Ordering.{nat_cmp}
 use Rattle.std.specs.Cmp.Lexicographic.{slice_cmp}
@@ -8,7 +8,9 @@ use Rattle.lists.specs.Ascending.{ascending}
 use Rattle.struct_model.specs.Membership.{is_supply}
 use Rattle.lists.specs.Enumeration.{Enumerated}
 use Rattle.splits.specs.Splits.{Split, splits}
-use Rattle.splits.specs.Parts.{has_length, parts}
+use Rattle.struct_model.specs.declared.supplies.Supply.{Supply}
+use Rattle.struct_model.specs.SupplyView.{supply_labels, is_in_order}
+use Rattle.splits.specs.Parts.{has_length, parts, number_of_parts}
 
 -- the two lists are supplies, and together they are the supply
 pub record IsSplit (universe : Universe) (u : List ℕ) (split : Split) : Type 0 where
@@ -29,3 +31,7 @@ abbrev pub PartsAreListed : Type 0
 PartsAreListed =
     (universe : Universe) (u : List ℕ) (low high : ℕ) → IsTrue (is_supply universe u)
     → Enumerated PartBefore (λ split. IsSplit universe u split × IsTrue (has_length low high split)) (parts low high u)
+
+-- Of d labels a supply of at least so many has as many parts as there are ways to choose them, and one of zeros has one.
+abbrev pub PartsAreCounted : Type 0
+PartsAreCounted = (supply : Supply) (d : ℕ) → IsTrue (is_in_order supply) → d ≤ length (supply_labels supply) → length (parts d d (supply_labels supply)) ≡ number_of_parts supply d

@@ -6,3 +6,4 @@ pub mod Changes
 pub mod WalkView
 pub mod Capped
 pub mod Pascal
+pub mod Passed

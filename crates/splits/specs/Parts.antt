@@ -3,7 +3,10 @@ use Rattle.std.specs.Prelude.{ℕ, Bool, not, ◌&&◌, nat_le, List, [], length
 use Rattle.std.specs.List.{filter}
 use Rattle.std.specs.Ordering.{nat_cmp, is_lt}
 use Rattle.std.specs.Cmp.Lexicographic.{slice_cmp}
+use Rattle.count_laws.specs.Choose.{choose}
 use Rattle.lists.specs.Enumeration.{IsIn}
+use Rattle.struct_model.specs.declared.supplies.Supply.{Supply}
+use Rattle.struct_model.specs.declared.supplies.Supply.TheVariants.{Zeros, Labels}
 use Rattle.splits.specs.Splits.{Split, splits}
 use Rattle.splits.specs.Lengths.{is_admitted}
 
@@ -39,3 +42,8 @@ from_part (Some part) ss = filter (λ split. not (comes_before split.part part))
 -- is it the part of one of the splits
 abbrev pub IsPart : List ℕ → List Split → Type 0
 IsPart part ss = IsIn part (map (λ split. split.part) ss)
+
+-- how many parts of d labels a supply has
+abbrev pub number_of_parts : Supply → ℕ → ℕ
+number_of_parts (Zeros n) d = 1
+number_of_parts (Labels labels) d = choose (length labels) d

@@ -10,13 +10,15 @@ mod labelled;
 mod laws;
 mod length_walk;
 mod lengths;
+mod nth;
 mod pascal;
 mod walk;
 
 pub use capped::{plus, times};
 pub use copies::copy_supply;
-pub use laws::{parts_are_listed, splits_are_listed};
+pub use laws::{parts_are_counted, parts_are_listed, splits_are_listed};
 pub use length_walk::{LengthWalk, remaining};
+pub use nth::nth_part;
 pub use pascal::Pascal;
 pub use walk::PartWalk;
 
@@ -129,6 +131,34 @@ mod tests {
     }
 
     #[test]
+    fn parts_by_number(rt: HostRuntime) -> Result<(), Fail> {
+        let alloc = rt.alloc();
+        let pascal = Pascal::new(alloc, 5)?;
+        let supply = Supply::Labels(Labels::from_slice(alloc, [1, 2, 5, 7, 8].as_slice())?);
+        let mut found = Vec::new(alloc);
+        let (part, rest) = nth_part(alloc, &pascal, &supply, 2, 0)?;
+        tell(&part, &mut found)?;
+        tell(&rest, &mut found)?;
+        let (part, rest) = nth_part(alloc, &pascal, &supply, 2, 4)?;
+        tell(&part, &mut found)?;
+        tell(&rest, &mut found)?;
+        let (part, rest) = nth_part(alloc, &pascal, &supply, 2, 9)?;
+        tell(&part, &mut found)?;
+        tell(&rest, &mut found)?;
+        let (part, rest) = nth_part(alloc, &pascal, &Supply::Zeros(3), 1, 0)?;
+        tell(&part, &mut found)?;
+        tell(&rest, &mut found)?;
+        assert_eq!(rt;
+            found.as_slice(),
+            [
+                1, 2, 0, 5, 7, 8, 0, 2, 5, 0, 1, 7, 8, 0, 7, 8, 0, 1, 2, 5, 0, 1, 0, 2, 0
+            ]
+            .as_slice()
+        );
+        Ok(())
+    }
+
+    #[test]
     fn coefficients(rt: HostRuntime) -> Result<(), Fail> {
         let pascal = Pascal::new(rt.alloc(), 200)?;
         assert_eq!(rt; pascal.choose(0, 0), Some(1));
@@ -157,6 +187,7 @@ mod tests {
     fn the_laws(_rt: HostRuntime) -> Result<(), Fail> {
         splits_are_listed();
         parts_are_listed();
+        parts_are_counted();
         Ok(())
     }
 }
