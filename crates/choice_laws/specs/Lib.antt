@@ -1,0 +1,5 @@
+pub mod Trees
+pub mod Bits
+pub mod Shares
+pub mod Even
+pub mod Laws
