@@ -164,7 +164,7 @@ row_value_any g kind element card m c spec well_founded inside low high = by (ca
     by (inr le) = ap (λ (found : Option ℕ). unwrap_or found 0) (row_value g element card spec well_founded kind m c low (most le) inside)
 
 -- a container of a known kind
-kind_there : (found : Option Expression) (known : Kind) → option_map kind_of found ≡ Some (container known) → (element : Expression) × (card : Card) × (found ≡ Some (expr.Many known element card))
+pub kind_there : (found : Option Expression) (known : Kind) → option_map kind_of found ≡ Some (container known) → (element : Expression) × (card : Card) × (found ≡ Some (expr.Many known element card))
 kind_there found known is =
     let there = container_there found (ap (option_map is_container) is ∙ ap Some (is_one known)) in
     let same : there.0 ≡ known = kind_is there.0 known (sym (kind_same found there.0 there.1 there.2 (container known) there.3 is)) in

@@ -79,19 +79,43 @@ pointed_more number times d c m room =
     one_more (λ j. with_less (j * d) (number (c - j)) m) times
     ∙ ap (λ (k : ℕ). pointed_to number d c m times + k) (less_some ((times + 1) * d) (number (c - (times + 1))) m room)
 
-pub pointed_all : (number : ℕ → ℕ → ℕ) (times d c m : ℕ) → 1 ≤ d → times ≡ min c (m / d) → pointed_to number d c m times ≡ number_pointed number d c m
-pointed_all number times d c m low all =
-    none_behind (λ j. with_less (j * d) (number (c - j)) m) times (c - times) (λ j behind within. less_none (j * d) (number (c - j)) m (no_room j behind within))
+-- more times the others have fewer atoms than components
+pub pointed_all : (number : ℕ → ℕ → ℕ) (times d c m : ℕ) → 1 ≤ d → times ≤ c → ((j : ℕ) → times < j → j ≤ c → m < j * d + (c - j)) → ((i k : ℕ) → i < c → k < i → number i k ≡ 0)
+    → pointed_to number d c m times ≡ number_pointed number d c m
+pointed_all number times d c m low most more few =
+    none_behind (λ j. with_less (j * d) (number (c - j)) m) times (c - times) none
     ∙ ap (λ (k : ℕ). sum (map (λ j. with_less (j * d) (number (c - j)) m) (range_with_len 1 k))) (rest)
   where
     rest : times + (c - times) ≡ c
     rest = omega arith
 
-    no_room : (j : ℕ) → times < j → j ≤ times + (c - times) → m < j * d
-    no_room j behind within = elim (cases_lt m (j * d)) [
-      | inl large ↦ large
-      | inr fits ↦ absurd (omega (arith, le-div j m d low fits))
+    none : (j : ℕ) → times < j → j ≤ times + (c - times) → with_less (j * d) (number (c - j)) m ≡ 0
+    none j behind within = elim (cases_lt m (j * d)) [
+      | inl large ↦ less_none (j * d) (number (c - j)) m large
+      | inr fits ↦ less_some (j * d) (number (c - j)) m fits
+          ∙ few (c - j) (m - j * d) (omega (arith, behind, within, most)) (omega (arith, fits, more j behind (omega (arith, within, most))))
     ]
+
+-- ---- the most copies of an element
+
+-- one component more of a size takes one atom less of those that the others need
+one_each : (times d : ℕ) → 2 ≤ d → times * d ≡ times * (d - 1) + times
+one_each times d two = ap (λ (k : ℕ). times * k) split ∙ spread times (d - 1)
+  where
+    split : d ≡ d - 1 + 1
+    split = omega arith
+
+    spread : (a x : ℕ) → a * (x + 1) ≡ a * x + a
+    spread a x = omega arith
+
+pub copies_room : (times d c m : ℕ) → 2 ≤ d → times ≤ (m - c) / (d - 1) → times ≤ c → c ≤ m → times * d + (c - times) ≤ m
+copies_room times d c m two le few within = omega (arith, mul-le-mul_right (d - 1) le, div-add-mod' (m - c) (d - 1), one_each times d two)
+
+pub copies_most : (times d c m : ℕ) → 2 ≤ d → (m - c) / (d - 1) < times → times ≤ c → c ≤ m → m < times * d + (c - times)
+copies_most times d c m two less few within = elim (cases_lt m (times * d + (c - times))) [
+  | inl large ↦ large
+  | inr fits ↦ absurd (omega (arith, less, le-div times (m - c) (d - 1) (omega arith) (omega (arith, fits, one_each times d two))))
+]
 
 -- steps of sums that are told
 pub told_more : (number : ℕ → ℕ → ℕ) (times d c m one : ℕ) (before after : Option ℕ) → (times + 1) * d ≤ m → one ≡ number (c - (times + 1)) (m - (times + 1) * d)
@@ -256,6 +280,13 @@ module _ (checked : Checked) (marks : List Bool) (layers : List Layer) (told : A
       ∙ rests_in_row checked marks layers told node kind e card marked at (container kind) m (suc c) k found.0 row.0 refl (omega arith) looked found.1 row.1
       ∙ ap (λ (other : Kind). of_components (grammar checked) other e (suc c) k) same
 
+  -- among them none with fewer atoms than components
+  pub fewer_none : (c i k : ℕ) → rest_kind kind ≡ kind → ((c n : ℕ) → rests_of (container kind) c n ≡ n / c) → of_components (grammar checked) kind e 0 k ≡ one_at 0 k → c ≤ most_components card m → i < c → k < i
+      → fewer (by_sizes layers node) i k ≡ 0
+  fewer_none c i k same divided none looked below less =
+      fewer_is i k same divided none (omega (arith, looked, below)) (omega (arith, looked, below, less, most_le card m))
+      ∙ counted.few (grammar checked) kind e card i k told.is_checked.spec told.is_checked.well_founded (in_nodes checked.rules node _ at) less
+
 -- the loop over the number of components
 module _ (checked : Checked) (node : ℕ) (kind : Kind) (e : Expression) (card read : Card) (m : ℕ) (at : node_at checked.rules node ≡ Some (Many kind e card)) (card_is : card_at checked.rules node ≡ Some read) where
   bound : most_components read m ≡ most_components card m
@@ -275,6 +306,12 @@ module _ (checked : Checked) (node : ℕ) (kind : Kind) (e : Expression) (card r
 
 module _ (checked : Checked) (marks : List Bool) (layers : List Layer) (told : AreTold checked marks layers) (node : ℕ) (e : Expression) (card : Card) (m : ℕ)
     (filled : length layers ≡ m) (marked : IsMarked marks node) (at : node_at checked.rules node ≡ Some (Many kinds.Set e card)) where
+  -- of fewer components there are none with fewer atoms than components
+  pub no_fewer_sets : (c i k : ℕ) → c ≤ most_components card m → i < c → k < i → fewer (by_sizes layers node) i k ≡ 0
+  no_fewer_sets c i k looked =
+      fewer_none checked marks layers told node kinds.Set e card m filled marked at c i k refl (λ c n. refl)
+      (containers.no_sets (grammar checked) e card k told.is_checked.spec told.is_checked.well_founded (in_nodes checked.rules node _ at)) looked
+
   -- each multiset is met with each of its elements
   pub sets_met : (child c : ℕ) → slice_get (children_at checked.rules node) 0 ≡ Some child → node_at checked.rules child ≡ slice_get (arguments_at checked.rules node) 0 → checked.universe ≡ Unlabelled → 2 ≤ c
       → c ≤ most_components card m → c * of_components (grammar checked) kinds.Set e c m ≡ multisets_met layers (by_sizes layers node) child c m

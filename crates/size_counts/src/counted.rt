@@ -1,5 +1,5 @@
 //! The numbers of a class up to a size.
-ghost use Rattle.std.specs.Prelude.{◌≡◌, ◌⊎◌, ◌+◌, ◌-◌, ◌≤◌, ◌<◌, ◌↔◌, ◌∷◌, [], ◌++◌, ℕ, List, nat_eq, true, false, slice_get, Some, None, length, IfOk, IfErr, OnOk, IsSome, IfSome, IsTrue};
+ghost use Rattle.std.specs.Prelude.{◌≡◌, ◌⊎◌, ◌+◌, ◌-◌, ◌*◌, ◌^◌, ◌≤◌, ◌<◌, ◌↔◌, ◌∷◌, [], ◌++◌, ℕ, List, nat_eq, true, false, slice_get, Some, None, length, IfOk, IfErr, OnOk, IsSome, IfSome, IsTrue};
 ghost use Rattle.std.specs.Option.{option_map, option_map_or};
 ghost use Rattle.spec_syntax.specs.declared.expr.Card.{Card as AnyCard};
 ghost use Rattle.spec_syntax.specs.Card.{is_within};
@@ -210,7 +210,8 @@ impl Counted {
         requires kind { (option_map kind_of (node_at self.now.checked.rules node) ≡ Some told.Set) ⊎ (option_map kind_of (node_at self.now.checked.rules node) ≡ Some told.PowerSet) }
         requires high { (card : AnyCard) → card_at self.now.checked.rules node ≡ Some card → is_within card.high c ≡ true }
         requires within { m ≤ self.now.size }
-        ensures { result ≡ sets_of self.now node c m }
+        ensures value { result ≡ sets_of self.now node c m }
+        ensures fits { c * result < 2 ^ 128 }
     {
         let layer = &self.tables.layers[m as usize];
         if c == 0 {

@@ -72,15 +72,31 @@ pub(crate) fn fewer(numbers: &[Seq<u128>], c: u32, m: u32) -> u128
     }
 }
 
+/// How many of c components with m atoms may have size d, where each of the others has an atom or more.
+fn most_copies(d: u32, c: u32, m: u32) -> u32
+    requires low { 1 ≤ d }
+    requires high { c ≤ m }
+    ensures few { result ≤ c }
+    ensures room { (times : ℕ) → times ≤ result → times * d + (c - times) ≤ m }
+    ensures most { (times : ℕ) → result < times → times ≤ c → m < times * d + (c - times) }
+{
+    if d == 1 {
+        return c;
+    }
+    c.min((m - c) / (d - 1))
+}
+
 /// How many multisets of c elements with m atoms there are that have an element of size d, which is put in last, from once to c
 /// times.
 fn pointed(numbers: &[Seq<u128>], d: u32, c: u32, m: u32) -> Option<u128>
     requires low { 1 ≤ d }
+    requires high { c ≤ m }
     requires sizes { m ≤ length numbers.now }
+    requires none { (i k : ℕ) → i < c → k < i → fewer numbers.now i k ≡ 0 }
     ensures { Tells result (number_pointed (fewer numbers.now) d c m) }
 {
     let mut sum = Some(0);
-    for earlier in 0..c.min(m / d) {
+    for earlier in 0..most_copies(d, c, m) {
         let times = earlier + 1;
         sum = plus(sum, Some(fewer(numbers, c - times, m - times * d)));
     }
@@ -100,6 +116,7 @@ fn met(
     requires small { m ≤ 1000 }
     requires sizes { m ≤ length layers.now }
     requires numbers { m ≤ length numbers.now }
+    requires none { (i k : ℕ) → i < c → k < i → fewer numbers.now i k ≡ 0 }
     requires element { HaveNode layers.now element }
     ensures { Tells result (multisets_met layers.now numbers.now element c m) }
 {
@@ -120,12 +137,14 @@ fn add_pointed(sum: &mut Shared, numbers: &[Seq<u128>], elements: u128, d: u32, 
     requires few { sum.old.parts ≤ 1000 }
     requires left { sum.old.rest < sum.old.parts }
     requires low { 1 ≤ d }
+    requires high { c ≤ m }
     requires sizes { m ≤ length numbers.now }
+    requires none { (i k : ℕ) → i < c → k < i → fewer numbers.now i k ≡ 0 }
     ensures parts { sum.new.parts ≡ sum.old.parts }
     ensures left { sum.new.rest < sum.new.parts }
     ensures sum { (n : ℕ) → StandsFor sum.old n → StandsFor sum.new (n + elements * number_pointed (fewer numbers.now) d c m) }
 {
-    for earlier in 0..c.min(m / d) {
+    for earlier in 0..most_copies(d, c, m) {
         let times = earlier + 1;
         sum.add(elements, fewer(numbers, c - times, m - times * d));
     }
@@ -144,6 +163,7 @@ fn shared(
     requires small { m ≤ 1000 }
     requires sizes { m ≤ length layers.now }
     requires numbers { m ≤ length numbers.now }
+    requires none { (i k : ℕ) → i < c → k < i → fewer numbers.now i k ≡ 0 }
     requires element { HaveNode layers.now element }
     ensures { (n : ℕ) → c * n ≡ multisets_met layers.now numbers.now element c m → Tells result n }
 {
@@ -170,6 +190,7 @@ fn multisets(
     requires small { m ≤ 1000 }
     requires sizes { m ≤ length layers.now }
     requires numbers { m ≤ length numbers.now }
+    requires none { (i k : ℕ) → i < c → k < i → fewer numbers.now i k ≡ 0 }
     requires element { HaveNode layers.now element }
     ensures { (n : ℕ) → c * n ≡ multisets_met layers.now numbers.now element c m → Tells result n }
 {
