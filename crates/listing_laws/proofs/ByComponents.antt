@@ -1,7 +1,7 @@
 -- The structures of a container by the number of components.
-use Rattle.std.proofs.Common.{◌≡◌, ℕ, suc, ◌+◌, ◌<◌, ◌≤◌, Bool, true, false, List, [], length, refl, sym, ap, ◌∙◌, subst, arith, true≢false}
+use Rattle.std.proofs.Common.{◌≡◌, ℕ, suc, ◌+◌, ◌<◌, ◌≤◌, Bool, true, false, List, [], length, map, refl, sym, ap, ◌∙◌, subst, arith, true≢false}
 use Rattle.std.specs.Prelude.{if◌then◌else◌}
-use Rattle.std.specs.List.{flat_map, range_with_len}
+use Rattle.std.specs.List.{flat_map, range_with_len, sum}
 use Rattle.std.proofs.lemmas.Bool.{and_parts, and_from}
 use Rattle.std.proofs.lemmas.List.{length-map}
 use Rattle.lists.specs.Enumeration.{IsIn, Enumerated}
@@ -19,7 +19,7 @@ use Rattle.spec_syntax.specs.Expression.{Expression}
 use Rattle.spec_syntax.specs.Grammar.{Grammar}
 use Rattle.struct_model.specs.declared.tree.Form5.TheVariants as form
 use Rattle.struct_model.specs.Structure.{Structure, Tup, Structures, no_parts, more_parts, part_list, size}
-use Rattle.struct_model.specs.Membership.{is_of, supply}
+use Rattle.struct_model.specs.Membership.{is_of, is_supply, supply}
 use Rattle.struct_model.specs.Listing.{Before, IsOne}
 use Rattle.struct_model.specs.Bounded.{listing, number}
 use Rattle.struct_model.proofs.OrderLaws.{order_strict}
@@ -91,22 +91,19 @@ module _ (g : Grammar) (e : Expression) where
         omega (arith, counted ps, few_parts ps (λ t there. never_empty t (component_is g e ps t (container_is g kind e card f ps of).are there)))
     few_components kind card s of = omega arith
 
-    module _ (kind : Kind) (card : Card) (listed : (other : Card) → IsListing g (expr.Many kind e other)) (n : ℕ) where
-      abbrev labels_are : List ℕ
-      labels_are = supply g.universe n
-
-      abbrev on : Card → List Structure
+    module _ (kind : Kind) (card : Card) (listed : (other : Card) → IsListing g (expr.Many kind e other)) (labels_are : List ℕ) (supplied : is_supply g.universe labels_are ≡ true) where
+      abbrev pub on : Card → List Structure
       on other = listing g (expr.Many kind e other) labels_are
 
       -- those with c components, where the bound admits them
-      abbrev row : ℕ → List Structure
+      abbrev pub row : ℕ → List Structure
       row c = if admits card c then on (exactly c) else []
 
       abbrev InRow : ℕ → Structure → Type 0
       InRow c s = (admits card c ≡ true) × IsOne g (expr.Many kind e (exactly c)) labels_are s
 
-      each_listed : (other : Card) → Enumerated Differs (IsOne g (expr.Many kind e other) labels_are) (on other)
-      each_listed other = each_once Before (IsOne g (expr.Many kind e other) labels_are) (on other) order_strict ((listed other).lists labels_are (supply_is g.universe n))
+      pub each_listed : (other : Card) → Enumerated Differs (IsOne g (expr.Many kind e other) labels_are) (on other)
+      each_listed other = each_once Before (IsOne g (expr.Many kind e other) labels_are) (on other) order_strict ((listed other).lists labels_are supplied)
 
       row_is : (c : ℕ) → Enumerated Differs (InRow c) (row c)
       row_is c = by (admits card c) refl
@@ -122,33 +119,44 @@ module _ (g : Grammar) (e : Expression) where
       apart : (a b : ℕ) → a < b → (s t : Structure) → InRow a s → InRow b t → s ≡ t → ⊥
       apart a b less s t p q same = omega (arith, count_is a s p.1.0, count_is b t q.1.0, ap count same)
 
-      found : (s : Structure) → IsOne g (expr.Many kind e card) labels_are s → (c : ℕ) × IsBetween 0 (n + 1) c × InRow c s
+      found : (s : Structure) → IsOne g (expr.Many kind e card) labels_are s → (c : ℕ) × IsBetween 0 (length labels_are + 1) c × InRow c s
       found s one = (
         count s,
-        (omega arith, omega (arith, few_components kind card s one.0, size_is labels_are s one.1, supply_size g.universe n)),
+        (omega arith, omega (arith, few_components kind card s one.0, size_is labels_are s one.1)),
         (within_bound kind card s one.0, (rebound kind card (exactly (count s)) s one.0 (exactly_admits (count s)), one.1)),
       )
 
-      rows_are : Enumerated Differs (IsOne g (expr.Many kind e card) labels_are) (flat_map row (range_with_len 0 (n + 1)))
+      pub rows_are : Enumerated Differs (IsOne g (expr.Many kind e card) labels_are) (flat_map row (range_with_len 0 (length labels_are + 1)))
       rows_are =
-          enumerated.made Below (IsBetween 0 (n + 1)) Differs InRow (IsOne g (expr.Many kind e card) labels_are) row (range_with_len 0 (n + 1)) (range_is 0 (n + 1))
+          enumerated.made Below (IsBetween 0 (length labels_are + 1)) Differs InRow (IsOne g (expr.Many kind e card) labels_are) row (range_with_len 0 (length labels_are + 1))
+          (range_is 0 (length labels_are + 1))
           (λ c between. row_is c)
           (λ a b p q less s t. apart a b less s t)
           (λ c s between p. (rebound kind (exactly c) card s p.1.0 (subst (λ (k : ℕ). admits card k ≡ true) (sym (count_is c s p.1.0)) p.0), p.1.1))
           found
 
-      row_length : (c : ℕ) → length (row c) ≡ (if admits card c then number g (expr.Many kind e (exactly c)) n else 0)
+    module _ (kind : Kind) (card : Card) (listed : (other : Card) → IsListing g (expr.Many kind e other)) (n : ℕ) where
+      abbrev whole : List ℕ
+      whole = supply g.universe n
+
+      abbrev row_of : ℕ → List Structure
+      row_of = row kind card listed whole (supply_is g.universe n)
+
+      row_length : (c : ℕ) → length (row_of c) ≡ (if admits card c then number g (expr.Many kind e (exactly c)) n else 0)
       row_length c = by (admits card c)
         where
-          by : (b : Bool) → length (if b then on (exactly c) else []) ≡ (if b then number g (expr.Many kind e (exactly c)) n else 0)
+          by : (b : Bool) → length (if b then listing g (expr.Many kind e (exactly c)) whole else []) ≡ (if b then number g (expr.Many kind e (exactly c)) n else 0)
           by true = refl
           by false = refl
 
       by_components : number g (expr.Many kind e card) n ≡ admitted card (λ c. number g (expr.Many kind e (exactly c)) n) n
       by_components =
-          same_many (IsOne g (expr.Many kind e card) labels_are) (on card) (flat_map row (range_with_len 0 (n + 1))) (each_listed card) rows_are
-          ∙ length_made row (range_with_len 0 (n + 1))
-          ∙ sum_same (λ c. length (row c)) (λ c. if admits card c then number g (expr.Many kind e (exactly c)) n else 0) (range_with_len 0 (n + 1)) (λ c there. row_length c)
+          same_many (IsOne g (expr.Many kind e card) whole) (listing g (expr.Many kind e card) whole) (flat_map row_of (range_with_len 0 (length whole + 1)))
+          (each_listed kind card listed whole (supply_is g.universe n) card)
+          (rows_are kind card listed whole (supply_is g.universe n))
+          ∙ length_made row_of (range_with_len 0 (length whole + 1))
+          ∙ ap (λ (k : ℕ). sum (map (λ c. length (row_of c)) (range_with_len 0 (k + 1)))) (supply_size g.universe n)
+          ∙ sum_same (λ c. length (row_of c)) (λ c. if admits card c then number g (expr.Many kind e (exactly c)) n else 0) (range_with_len 0 (n + 1)) (λ c there. row_length c)
 
     few : (kind : Kind) (c n : ℕ) → n < c → number g (expr.Many kind e (exactly c)) n ≡ 0
     few kind c n less = ap length (is_empty (listing g (expr.Many kind e (exactly c)) (supply g.universe n)) none)

@@ -434,7 +434,7 @@ module _ (checked : Checked) (passed : IsChecked checked) where
           eqb-true (together checked passed (take (place + 1) (children_at checked.rules node))) 0 all,
         ))
 
-    components_down : split_measure checked (record { first = child; behind = later }) d m < lists_measure checked now n
+    pub components_down : split_measure checked (record { first = child; behind = later }) d m < lists_measure checked now n
     components_down = omega (arith, component_down (can_have_all checked now) refl, later_down (can_have_all checked now) (can_have_all checked later) refl refl)
 
   module _ (k : Kind) (node element : ℕ) (card : Card) (d m n : ℕ) (h : HasKind checked node (container k)) (child : slice_get (children_at checked.rules node) 0 ≡ Some element)
@@ -511,7 +511,7 @@ module _ (checked : Checked) (passed : IsChecked checked) where
           span_is checked,
         )
 
-    elements_down : split_measure checked (record { first = element; behind = others }) d m < lists_measure checked elements n
+    pub elements_down : split_measure checked (record { first = element; behind = others }) d m < lists_measure checked elements n
     elements_down = omega (arith, element_down (can_have_all checked elements) refl, others_down (can_have_all checked elements) (can_have_all checked others) refl refl)
 
   -- ---- on the way down from a node to its lists
