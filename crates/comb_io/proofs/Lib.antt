@@ -1,3 +1,4 @@
+pub mod Newest
 pub mod Parts
 pub mod Results
 pub mod Written

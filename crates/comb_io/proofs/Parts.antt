@@ -101,3 +101,14 @@ rest_read all rest buf taken most room m k e copied least count some =
     let read = front_read rest buf most room m k copied least count some in
     let after : drop k rest ≡ drop (taken + k) all = ap (drop k) e ∙ drop-drop k taken all in
     (sym e ∙ read.0 ∙ ap (λ l. take k buf ++ l) after, λ none room_left. sym after ∙ read.1 none room_left)
+
+-- a read of as much as there is, where so many bytes from the end are left
+pub last_read : (all buf : List ℕ) (unread room k : ℕ) → unread ≤ length all → take k buf ≡ take k (drop (length all - unread) all) → k ≡ min unread room
+    → (drop (length all - unread) all ≡ take k buf ++ drop (length all - (unread - k)) all) × (k ≡ 0 → 0 < room → drop (length all - (unread - k)) all ≡ [])
+last_read all buf unread room k within copied count =
+    let taken = length all - unread in
+    let next : taken + k ≡ length all - (unread - k) = omega (arith, count) in
+    let after : drop k (drop taken all) ≡ drop (length all - (unread - k)) all = drop-drop k taken all ∙ ap (λ n. drop n all) next in (
+      sym (take-append-drop k (drop taken all)) ∙ ap (λ l. l ++ drop k (drop taken all)) (sym copied) ∙ ap (λ l. take k buf ++ l) after,
+      λ none room_left. nil_from_length (drop (length all - (unread - k)) all) (omega (arith, length-drop (length all - (unread - k)) all, count)),
+    )

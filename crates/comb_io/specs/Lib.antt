@@ -5,3 +5,4 @@ pub mod Parts
 pub mod Writes
 pub mod Sure
 pub mod Standard
+pub mod Shelves

@@ -1,72 +1,14 @@
 //! A source and a sink in memory that move a few bytes at a time and fail at chosen calls.
-ghost use Rattle.std.specs.Prelude.{◌≡◌, ℕ, ◌<◌, ◌≤◌, ◌+◌, ◌-◌, ◌^◌, ◌↔◌, List, [], min, length, Some, Ok, Err, IsErr, IsTrue, OnOk, IfOk, IfErr};
-ghost use Rattle.std.specs.Bool.{OnTrue, OnFalse};
+ghost use Rattle.std.specs.Prelude.{◌≡◌, ℕ, ◌<◌, ◌≤◌, ◌↔◌, List, [], min, length, Some, Ok, Err, IsErr, IsTrue, IfOk};
 ghost use Rattle.std.specs.Io.KnownBytes.{ReadConsumes, WriteAppends};
-ghost use Rattle.comb_io.specs.Faults.{HasCause, HasSinkCause, Rose};
+ghost use Rattle.comb_io.specs.Faults.{HasCause, HasSinkCause};
 ghost use Rattle.comb_io.specs.Memory.{after_call, is_failing};
 
+use crate::calls::CallCounter;
 use crate::sinks::{Sink, SinkFault};
 use crate::sources::{Failed, Source, copy_front};
 use std::alloc::{AllocError, Global};
 use std::marker::Model;
-
-// Numbers the calls, and says which fail.
-#[derive(Debug, Drop)]
-struct CallCounter {
-    failing: Vec<u64>,
-    number: u128,
-    faults: u64,
-}
-
-impl Model for CallCounter {
-    ghost use Rattle.comb_io.specs.Memory.{Calls};
-
-    ghost Value = { Calls };
-
-    ghost view = { λ counter. record {
-      failing = counter.failing.items;
-      number = counter.number;
-      faults = counter.faults;
-    } };
-}
-
-impl CallCounter {
-    // No call yet; those with these numbers, from 0, are to fail.
-    fn new(alloc: Global, failing: &[u64]) -> Result<CallCounter, AllocError>
-        ensures { IfOk result (λ counter. counter
-            ≡ record { failing = failing.now; number = 0; faults = 0 }) }
-    {
-        Ok(CallCounter {
-            failing: failing.to_vec(alloc)?,
-            number: 0,
-            faults: 0,
-        })
-    }
-
-    // Whether the next call fails.
-    fn next_fails(&self) -> bool
-        ensures { result ≡ is_failing self.now }
-    {
-        let number = self.number;
-        self.failing.iter().any(|n| u128::from(*n) == number)
-    }
-
-    // Counts the next call, and answers whether it fails.
-    fn fails(&mut self) -> bool
-        ensures failing { result ≡ is_failing self.old }
-        ensures counted { self.new ≡ after_call self.old }
-        ensures later { self.old.faults ≤ self.new.faults }
-        ensures rose { OnTrue result (Rose self.old.faults self.new.faults) }
-        ensures kept { OnFalse result (self.new.faults ≡ self.old.faults) }
-    {
-        let fails = self.next_fails();
-        self.number = self.number.saturating_add(1);
-        if fails {
-            self.faults = self.faults.saturating_add(1);
-        }
-        fails
-    }
-}
 
 /// Bytes in memory of which a read gives a few at most, and of which chosen reads fail.
 #[derive(Debug, Drop)]
