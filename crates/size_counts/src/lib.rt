@@ -24,6 +24,7 @@ mod totals;
 pub use counted::Counted;
 pub use laws::numbers_of_a_class_say_one_thing;
 pub use place::{CountFault, Group, Place};
+pub use spot::rule_of;
 
 #[cfg(test)]
 mod tests;

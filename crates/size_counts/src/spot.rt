@@ -40,8 +40,8 @@ fn index_of(kind: NodeKind, i: u32) -> u32
     }
 }
 
-/// The number of the rule in which the node stands.
-fn rule_of(grammar: &Grammar, node: u32) -> u32
+/// The number of the rule in which the node stands, from 1.
+pub fn rule_of(grammar: &Grammar, node: u32) -> u32
     requires { node < length (all_nodes grammar.now.rules) }
     ensures rule { (r k : ℕ) → place_in_rule grammar.now.rules node ≡ Some (r, k) → result ≡ r }
     ensures low { 1 ≤ result }
